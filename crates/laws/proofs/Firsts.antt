@@ -1,0 +1,69 @@
+-- The laws of `firstTo`.
+use Prim.Native.Nat.{ℕ, zero, suc, _+_, _≤_, _<_}
+use mathlib.Core.Bool.{Bool, true, false, cond}
+use mathlib.Core.Logic.{⊎-elim}
+use mathlib.Core.Path.{_≡_, refl}
+use native.Mathlib.Nat.{le-of-suc-le-suc, eq-or-lt-of-le}
+use native.Mathlib.Numerals.{add-one}
+use native.Mathlib.Omega.{arith}
+use borrow.Author.Tests.{lt-ltb, le-ltb}
+use Rattle.laws.specs.First.{firstTo}
+use Rattle.laws.proofs.Cases.{lt-or-ge, true-or-false}
+
+module _ (test : ℕ → Bool) where
+  -- where a search begins
+  pub first-none : firstTo 0 test ≡ 0
+  unfolding firstTo
+  first-none = refl
+
+  -- a turn of it: nothing before i, nor at i
+  pub first-past : (i : ℕ) → firstTo i test ≡ i → test i ≡ false → firstTo (i + 1) test ≡ i + 1
+  unfolding firstTo
+  first-past i e f = rw (add-one i, le-ltb (firstTo i test) i (omega arith), f)
+
+  -- its end: nothing before i, and the test holds at i
+  pub first-here : (n i : ℕ) → i < n → firstTo i test ≡ i → test i ≡ true → firstTo n test ≡ i
+  unfolding firstTo
+  first-here zero i l e t = absurd (omega arith)
+  first-here (suc n) i l e t =
+      ⊎-elim
+      (λ q. rw (← q, le-ltb (firstTo i test) i (omega arith), t))
+      (λ k. rw (first-here n i k e t, lt-ltb i n k))
+      (eq-or-lt-of-le (le-of-suc-le-suc l))
+
+  pub first-le : (n : ℕ) → firstTo n test ≤ n
+  unfolding firstTo
+  first-le zero = omega arith
+  first-le (suc n) =
+      ⊎-elim
+      (λ l. rw (lt-ltb (firstTo n test) n l) (omega arith))
+      (λ g. rw (le-ltb (firstTo n test) n g) (⊎-elim (λ t. rw t (omega arith)) (λ t. rw t (omega arith)) (true-or-false (test n))))
+      (lt-or-ge (firstTo n test) n)
+
+  -- the test holds nowhere before what is found
+  pub first-before : (n i : ℕ) → i < firstTo n test → test i ≡ false
+  unfolding firstTo
+  first-before zero i l = absurd (omega arith)
+  first-before (suc n) i l =
+      ⊎-elim
+      (λ k. first-before n i (rw (lt-ltb (firstTo n test) n k) at l))
+      (λ g. by (test n) refl (λ k. first-before n i (omega arith)) (rw (le-ltb (firstTo n test) n g) at l))
+      (lt-or-ge (firstTo n test) n)
+    where
+      by : (b : Bool) → test n ≡ b → (i < n → test i ≡ false) → i < cond b n (suc n) → test i ≡ false
+      by true t before k = before k
+      by false t before k = ⊎-elim (λ e. rw e t) before (eq-or-lt-of-le (le-of-suc-le-suc k))
+
+  -- and it holds there, where something is found
+  pub first-holds : (n : ℕ) → firstTo n test < n → test (firstTo n test) ≡ true
+  unfolding firstTo
+  first-holds zero l = absurd (omega arith)
+  first-holds (suc n) l =
+      ⊎-elim
+      (λ k. rw (lt-ltb (firstTo n test) n k) (first-holds n k))
+      (λ g. rw (le-ltb (firstTo n test) n g) (by (test n) refl (rw (le-ltb (firstTo n test) n g) at l)))
+      (lt-or-ge (firstTo n test) n)
+    where
+      by : (b : Bool) → test n ≡ b → cond b n (suc n) < suc n → test (cond b n (suc n)) ≡ true
+      by true t k = t
+      by false t k = absurd (omega arith)

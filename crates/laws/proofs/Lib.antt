@@ -1,0 +1,7 @@
+pub mod Cases
+pub mod Sums
+pub mod Firsts
+pub mod Greatests
+pub mod Tables
+pub mod Signeds
+pub mod Machine

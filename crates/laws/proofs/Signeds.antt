@@ -1,0 +1,112 @@
+-- The laws of `a ⊖ b`: what is to be shown of a signed number is arithmetic of the two naturals it is the difference of.
+use Prim.Native.Nat.{ℕ, suc, _+_, _-_, _*_, _≤_, _<_}
+use mathlib.Core.Logic.{⊎-elim}
+use mathlib.Core.Path.{_≡_, sym, ap, _∙_}
+use native.Mathlib.Nat.{add-zero, add-comm, add-mul}
+use native.Mathlib.Omega.{arith}
+use lib.Dec.{ltb}
+use lib.IntN.{ℤ, pos, negsuc, negℤ, _+ℤ_, _-ℤ_, _*ℤ_, +ℤ-assoc, +ℤ-comm, +ℤ-idl, +ℤ-idr, +ℤ-invr, negℤ-+ℤ, negℤ-negℤ}
+use lib.Signed.{ltZ}
+use borrow.Author.Tests.{lt-ltb, le-ltb}
+use Rattle.laws.specs.Signed.{_⊖_, apart}
+use Rattle.laws.proofs.Cases.{lt-or-ge, ltb-iff}
+
+swapped : (x y z w : ℤ) → (x +ℤ y) +ℤ (z +ℤ w) ≡ (x +ℤ z) +ℤ (y +ℤ w)
+swapped x y z w =
+    +ℤ-assoc x y (z +ℤ w)
+    ∙ ap (λ (t : ℤ). x +ℤ t) (sym (+ℤ-assoc y z w) ∙ ap (λ (t : ℤ). t +ℤ w) (+ℤ-comm y z) ∙ +ℤ-assoc z y w)
+    ∙ sym (+ℤ-assoc x z (y +ℤ w))
+
+pub ⊖-add : (a b c d : ℕ) → (a ⊖ b) +ℤ (c ⊖ d) ≡ (a + c) ⊖ (b + d)
+unfolding _⊖_
+⊖-add a b c d =
+    swapped (pos a) (negℤ (pos b)) (pos c) (negℤ (pos d))
+    ∙ ap (λ (t : ℤ). pos (a + c) +ℤ t) (sym (negℤ-+ℤ (pos b) (pos d)))
+
+pub ⊖-neg : (a b : ℕ) → negℤ (a ⊖ b) ≡ b ⊖ a
+unfolding _⊖_
+⊖-neg a b =
+    negℤ-+ℤ (pos a) (negℤ (pos b))
+    ∙ ap (λ (t : ℤ). negℤ (pos a) +ℤ t) (negℤ-negℤ (pos b))
+    ∙ +ℤ-comm (negℤ (pos a)) (pos b)
+
+pub ⊖-sub : (a b c d : ℕ) → (a ⊖ b) -ℤ (c ⊖ d) ≡ (a + d) ⊖ (b + c)
+⊖-sub a b c d = ap (λ (t : ℤ). (a ⊖ b) +ℤ t) (⊖-neg c d) ∙ ⊖-add a b d c
+
+pub ⊖-zero : (a : ℕ) → a ⊖ 0 ≡ pos a
+unfolding _⊖_
+⊖-zero a = ap pos (add-zero a)
+
+pub ⊖-self : (a : ℕ) → a ⊖ a ≡ pos 0
+unfolding _⊖_
+⊖-self a = +ℤ-invr (pos a)
+
+shifted : (a b d : ℕ) → (a + d) ⊖ (b + d) ≡ a ⊖ b
+shifted a b d = sym (⊖-add a b d d) ∙ ap (λ (t : ℤ). (a ⊖ b) +ℤ t) (⊖-self d) ∙ +ℤ-idr (a ⊖ b)
+
+-- two differences are equal where the crossed sums are
+pub ⊖-eq : (a b c d : ℕ) → a + d ≡ c + b → a ⊖ b ≡ c ⊖ d
+⊖-eq a b c d e =
+    sym (shifted a b d)
+    ∙ ap (λ (t : ℕ). t ⊖ (b + d)) e
+    ∙ ap (λ (t : ℕ). (c + b) ⊖ t) (add-comm b d)
+    ∙ shifted c d b
+
+pub ⊖-ge : (a b : ℕ) → b ≤ a → a ⊖ b ≡ pos (a - b)
+⊖-ge a b h = ⊖-eq a b (a - b) 0 (omega arith) ∙ ⊖-zero (a - b)
+
+below-zero : (n : ℕ) → 0 ⊖ suc n ≡ negsuc n
+unfolding _⊖_
+below-zero n = +ℤ-idl (negsuc n)
+
+pub ⊖-less : (a b : ℕ) → a < b → a ⊖ b ≡ negsuc (b - suc a)
+⊖-less a b h = ⊖-eq a b 0 (suc (b - suc a)) (omega arith) ∙ below-zero (b - suc a)
+
+-- a test of two differences is a test of the crossed sums
+pub ⊖-ltZ : (a b c d : ℕ) → ltZ (a ⊖ b) (c ⊖ d) ≡ ltb (a + d) (c + b)
+⊖-ltZ a b c d =
+    ⊎-elim
+    (λ l. ⊎-elim
+    (λ k. rw (⊖-less a b l, ⊖-less c d k) (ltb-iff (d - suc c) (b - suc a) (a + d) (c + b) (λ h. omega arith) (λ h. omega arith)))
+    (λ k. rw (⊖-less a b l, ⊖-ge c d k) (sym (lt-ltb (a + d) (c + b) (omega arith))))
+    (lt-or-ge c d))
+    (λ l. ⊎-elim
+    (λ k. rw (⊖-ge a b l, ⊖-less c d k) (sym (le-ltb (a + d) (c + b) (omega arith))))
+    (λ k. rw (⊖-ge a b l, ⊖-ge c d k) (ltb-iff (a - b) (c - d) (a + d) (c + b) (λ h. omega arith) (λ h. omega arith)))
+    (lt-or-ge c d))
+    (lt-or-ge a b)
+
+pub ⊖-above : (a b : ℕ) → ltZ (pos 0) (a ⊖ b) ≡ ltb b a
+⊖-above a b =
+    rw (← ⊖-self b) (⊖-ltZ b b a b ∙ ltb-iff (b + b) (a + b) b a (λ h. omega arith) (λ h. omega arith))
+
+pub ⊖-below : (a b : ℕ) → ltZ (a ⊖ b) (pos 0) ≡ ltb a b
+⊖-below a b =
+    rw (← ⊖-self b) (⊖-ltZ a b b b ∙ ltb-iff (a + b) (b + b) a b (λ h. omega arith) (λ h. omega arith))
+
+-- the square of a difference
+pub ⊖-square : (a b : ℕ) → (a ⊖ b) *ℤ (a ⊖ b) ≡ pos (apart a b * apart a b)
+⊖-square a b =
+    ⊎-elim
+    (λ l. let e : suc (b - suc a) ≡ apart a b = omega arith in rw (⊖-less a b l) (ap (λ (k : ℕ). pos (k * k)) e))
+    (λ g. let e : a - b ≡ apart a b = omega arith in rw (⊖-ge a b g) (ap (λ (k : ℕ). pos (k * k)) e))
+    (lt-or-ge a b)
+
+split : (a b n : ℕ) → b ≤ a → a * n ≡ (a - b) * n + b * n
+split a b n h = let e : a ≡ a - b + b = omega arith in ap (λ (k : ℕ). k * n) e ∙ add-mul (a - b) b n
+
+-- a difference times a natural number
+pub ⊖-scale : (a b n : ℕ) → (a ⊖ b) *ℤ pos n ≡ a * n ⊖ b * n
+⊖-scale a b n =
+    ⊎-elim
+    (λ l. rw (⊖-less a b l) (below l))
+    (λ g. rw (⊖-ge a b g) (sym (⊖-eq (a * n) (b * n) ((a - b) * n) 0 (omega (arith, split a b n g)) ∙ ⊖-zero ((a - b) * n))))
+    (lt-or-ge a b)
+  where
+    below : a < b → negℤ (pos (suc (b - suc a) * n)) ≡ a * n ⊖ b * n
+    below l =
+        let e : suc (b - suc a) ≡ b - a = omega arith in
+        rw e
+        (ap negℤ (sym (⊖-zero ((b - a) * n)))
+        ∙ ⊖-neg ((b - a) * n) 0
+        ∙ ⊖-eq 0 ((b - a) * n) (a * n) (b * n) (omega (arith, split b a n (omega arith))))

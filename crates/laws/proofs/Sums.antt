@@ -1,0 +1,101 @@
+-- The laws of sums.
+use Prim.Native.Nat.{ℕ, zero, suc, _+_, _-_, _*_, _<_, _≤_, zero-le}
+use mathlib.Core.Path.{_≡_, refl, sym, ap, ap₂, _∙_}
+use native.Mathlib.Nat.{le-refl, le-trans, le-of-eq, sub-self, add-zero, add-suc, suc-mul, add-le-add, mul-add, mul-zero}
+use native.Mathlib.Numerals.{add-one}
+use native.Mathlib.Omega.{arith}
+use Rattle.laws.specs.Sum.{sumTo, sumIn, sumBox}
+
+-- where a loop that adds begins
+pub sum-none : (f : ℕ → ℕ) → 0 ≡ sumTo 0 f
+unfolding sumTo
+sum-none f = refl
+
+-- a turn of it
+pub sum-more : (i : ℕ) (f : ℕ → ℕ) → sumTo i f + f i ≡ sumTo (i + 1) f
+unfolding sumTo
+sum-more i f = rw (add-one i)
+
+-- sums of functions that agree below n
+pub sum-ext : (n : ℕ) (f g : ℕ → ℕ) → ((k : ℕ) → k < n → f k ≡ g k) → sumTo n f ≡ sumTo n g
+unfolding sumTo
+sum-ext zero f g h = refl
+sum-ext (suc n) f g h = ap₂ (λ (x y : ℕ). x + y) (sum-ext n f g (λ k l. h k (omega arith))) (h n (le-refl (suc n)))
+
+-- a sum by a bound on its terms
+pub sum-le : (n b : ℕ) (f : ℕ → ℕ) → ((k : ℕ) → k < n → f k ≤ b) → sumTo n f ≤ n * b
+unfolding sumTo
+sum-le zero b f h = zero-le
+sum-le (suc n) b f h = rw (suc-mul n b) (add-le-add (sum-le n b f (λ k l. h k (omega arith))) (h n (le-refl (suc n))))
+
+-- a sum that is term by term at most B times another
+pub sum-scaled : (n B : ℕ) (f g : ℕ → ℕ) → ((k : ℕ) → k < n → g k ≤ B * f k) → sumTo n g ≤ B * sumTo n f
+unfolding sumTo
+sum-scaled zero B f g h = zero-le
+sum-scaled (suc n) B f g h =
+    le-trans
+    (add-le-add (sum-scaled n B f g (λ k l. h k (omega arith))) (h n (le-refl (suc n))))
+    (le-of-eq (sym (mul-add B (sumTo n f) (f n))))
+
+-- the sum of a sum
+pub sum-add : (n : ℕ) (f g : ℕ → ℕ) → sumTo n (λ (k : ℕ). f k + g k) ≡ sumTo n f + sumTo n g
+unfolding sumTo
+sum-add zero f g = refl
+sum-add (suc n) f g = omega (arith, sum-add n f g)
+
+-- a sum times a number
+pub sum-times : (n c : ℕ) (f : ℕ → ℕ) → sumTo n (λ (k : ℕ). c * f k) ≡ c * sumTo n f
+unfolding sumTo
+sum-times zero c f = sym (mul-zero c)
+sum-times (suc n) c f = omega (arith, sum-times n c f, mul-add c (sumTo n f) (f n))
+
+-- two parts, end to end
+pub sum-split : (a n : ℕ) (f : ℕ → ℕ) → sumTo (a + n) f ≡ sumTo a f + sumTo n (λ (k : ℕ). f (a + k))
+unfolding sumTo
+sum-split a zero f = rw (add-zero a) (sym (add-zero (sumTo a f)))
+sum-split a (suc n) f = rw (add-suc a n) (omega (arith, sum-split a n f))
+
+-- a range, as what two sums from the start differ by
+pub range : (a b : ℕ) (f : ℕ → ℕ) → a ≤ b → sumTo a f + sumIn a b f ≡ sumTo b f
+unfolding sumIn
+range a b f h =
+    let e : a + (b - a) ≡ b = omega arith in
+    sym (sum-split a (b - a) f) ∙ ap (λ (n : ℕ). sumTo n f) e
+
+pub in-none : (a : ℕ) (f : ℕ → ℕ) → 0 ≡ sumIn a a f
+unfolding sumIn sumTo
+in-none a f = rw (sub-self a)
+
+pub in-more : (a i : ℕ) (f : ℕ → ℕ) → a ≤ i → sumIn a i f + f i ≡ sumIn a (i + 1) f
+in-more a i f h =
+    let p = range a i f h in
+    let q = range a (i + 1) f (omega arith) in
+    let s = sum-more i f in
+    omega arith
+
+module _ (a b : ℕ) where
+  pub in-ext : (f g : ℕ → ℕ) → ((k : ℕ) → a ≤ k → k < b → f k ≡ g k) → sumIn a b f ≡ sumIn a b g
+  unfolding sumIn
+  in-ext f g h = sum-ext (b - a) (λ (k : ℕ). f (a + k)) (λ (k : ℕ). g (a + k)) (λ k l. h (a + k) (omega arith) (omega arith))
+
+  pub in-le : (B : ℕ) (f : ℕ → ℕ) → ((k : ℕ) → a ≤ k → k < b → f k ≤ B) → sumIn a b f ≤ (b - a) * B
+  unfolding sumIn
+  in-le B f h = sum-le (b - a) B (λ (k : ℕ). f (a + k)) (λ k l. h (a + k) (omega arith) (omega arith))
+
+  pub in-scaled : (B : ℕ) (f g : ℕ → ℕ) → ((k : ℕ) → a ≤ k → k < b → g k ≤ B * f k) → sumIn a b g ≤ B * sumIn a b f
+  unfolding sumIn
+  in-scaled B f g h =
+      sum-scaled (b - a) B (λ (k : ℕ). f (a + k)) (λ (k : ℕ). g (a + k)) (λ k l. h (a + k) (omega arith) (omega arith))
+
+module _ (a b l r : ℕ) (f g : ℕ → ℕ → ℕ) where
+  pub box-ext : ((u v : ℕ) → a ≤ u → u < b → l ≤ v → v < r → f u v ≡ g u v) → sumBox a b l r f ≡ sumBox a b l r g
+  unfolding sumBox
+  box-ext h =
+      in-ext a b (λ (u : ℕ). sumIn l r (λ (v : ℕ). f u v)) (λ (u : ℕ). sumIn l r (λ (v : ℕ). g u v))
+      (λ u p q. in-ext l r (λ (v : ℕ). f u v) (λ (v : ℕ). g u v) (λ v s t. h u v p q s t))
+
+  pub box-scaled : (B : ℕ) → ((u v : ℕ) → a ≤ u → u < b → l ≤ v → v < r → g u v ≤ B * f u v) → sumBox a b l r g ≤ B * sumBox a b l r f
+  unfolding sumBox
+  box-scaled B h =
+      in-scaled a b B (λ (u : ℕ). sumIn l r (λ (v : ℕ). f u v)) (λ (u : ℕ). sumIn l r (λ (v : ℕ). g u v))
+      (λ u p q. in-scaled l r B (λ (v : ℕ). f u v) (λ (v : ℕ). g u v) (λ v s t. h u v p q s t))

@@ -1,0 +1,100 @@
+-- The laws of `tabulate`, and the invariant of a loop that writes a buffer.
+use Prim.Native.Nat.{ℕ, zero, suc, _+_, _-_, _<_, _≤_, suc-le-suc, zero-le}
+use mathlib.Core.List.{List, [], _∷_, _++_, append-nil}
+use mathlib.Core.Path.{_≡_, refl, sym, ap, _∙_}
+use native.Mathlib.Nat.{not-suc-le-zero, le-of-suc-le-suc, zero-lt-suc}
+use native.Mathlib.Numerals.{add-one}
+use native.Mathlib.Omega.{arith}
+use lib.ListN.{length, set, drop, getD, drop-of-length-le, length-set, List·getD-append}
+use lib.Seq.{getD-append-add, getD-drop}
+use Rattle.laws.specs.Table.{tabulate}
+
+pub length-tabulate : (n : ℕ) (f : ℕ → ℕ) → length (tabulate n f) ≡ n
+unfolding tabulate
+length-tabulate zero f = refl
+length-tabulate (suc n) f = ap suc (length-tabulate n (λ (k : ℕ). f (suc k)))
+
+pub getD-tabulate : (n : ℕ) (f : ℕ → ℕ) (i : ℕ) → i < n → getD (tabulate n f) i 0 ≡ f i
+unfolding tabulate
+getD-tabulate zero f i h = absurd (not-suc-le-zero h)
+getD-tabulate (suc n) f zero h = refl
+getD-tabulate (suc n) f (suc i) h = getD-tabulate n (λ (k : ℕ). f (suc k)) i (le-of-suc-le-suc h)
+
+-- two tables of functions that agree below n are one
+pub tabulate-ext : (n : ℕ) (f g : ℕ → ℕ) → ((k : ℕ) → k < n → f k ≡ g k) → tabulate n f ≡ tabulate n g
+unfolding tabulate
+tabulate-ext zero f g h = refl
+tabulate-ext (suc n) f g h =
+    rw (h zero (zero-lt-suc n), tabulate-ext n (λ (k : ℕ). f (suc k)) (λ (k : ℕ). g (suc k)) (λ k l. h (suc k) (suc-le-suc l)))
+
+-- a list is the table of its own elements
+pub tabulate-getD : (l : List ℕ) → tabulate (length l) (λ (i : ℕ). getD l i 0) ≡ l
+unfolding tabulate
+tabulate-getD [] = refl
+tabulate-getD (x ∷ l) = ap (λ (t : List ℕ). x ∷ t) (tabulate-getD l)
+
+-- a list is a table where it has the table's length and elements
+pub tabulated : (n : ℕ) (f : ℕ → ℕ) (l : List ℕ) → length l ≡ n → ((k : ℕ) → k < n → getD l k 0 ≡ f k) → l ≡ tabulate n f
+tabulated n f l e h =
+    sym (tabulate-getD l)
+    ∙ ap (λ (m : ℕ). tabulate m (λ (i : ℕ). getD l i 0)) e
+    ∙ tabulate-ext n (λ (i : ℕ). getD l i 0) f h
+
+-- A buffer that was d and is l now, in a loop that stores f 0, f 1, .. from its start: the next to be stored is f i.
+pub record Filling (f : ℕ → ℕ) (d l : List ℕ) (i : ℕ) : Type 0 where
+  pub within : i ≤ length d
+  pub long : length l ≡ length d
+  pub written : l ≡ tabulate i f ++ drop i d
+
+stored : (i : ℕ) (f : ℕ → ℕ) (d : List ℕ) → i < length d
+    → set (tabulate i f ++ drop i d) i (f i) ≡ tabulate (suc i) f ++ drop (suc i) d
+unfolding tabulate
+stored i f [] l = absurd (not-suc-le-zero l)
+stored zero f (x ∷ d) l = refl
+stored (suc i) f (x ∷ d) l = ap (λ (t : List ℕ). f zero ∷ t) (stored i (λ (k : ℕ). f (suc k)) d (le-of-suc-le-suc l))
+
+-- where the loop begins
+pub filling-none : (f : ℕ → ℕ) (d : List ℕ) → Filling f d d 0
+unfolding tabulate
+filling-none f d = record { within = zero-le; long = refl; written = refl }
+
+module _ {f : ℕ → ℕ} {d l : List ℕ} {i : ℕ} where
+  -- a turn of it
+  pub filling-more : (v : ℕ) → Filling f d l i → i < length l → v ≡ f i → Filling f d (set l i v) (i + 1)
+  filling-more v r h e =
+      let h' : i < length d = omega (arith, r .long) in
+      record {
+        within = omega arith;
+        long = length-set l i v ∙ r .long;
+        written = rw (add-one i, r .written, e) (stored i f d h');
+      }
+
+  -- its end
+  pub filling-done : (n : ℕ) → Filling f d l i → length l ≤ i → length d ≡ n → l ≡ tabulate n f
+  filling-done n r h e =
+      let m : i ≡ n = omega (arith, r .long, r .within) in
+      let past : length d ≤ i = omega (arith, r .long) in
+      r .written
+      ∙ ap (λ (t : List ℕ). tabulate i f ++ t) (drop-of-length-le d past)
+      ∙ append-nil (tabulate i f)
+      ∙ ap (λ (k : ℕ). tabulate k f) m
+
+  -- what is written can be read
+  pub filling-read : Filling f d l i → (j : ℕ) → j < i → getD l j 0 ≡ f j
+  filling-read r j h =
+      let e : j < length (tabulate i f) = omega (arith, length-tabulate i f) in
+      ap (λ (t : List ℕ). getD t j 0) (r .written)
+      ∙ List·getD-append (tabulate i f) (drop i d) 0 j e
+      ∙ getD-tabulate i f j h
+
+  -- what is not yet written is as it was
+  pub filling-rest : Filling f d l i → (j : ℕ) → i ≤ j → getD l j 0 ≡ getD d j 0
+  filling-rest r j h =
+      let e : i + (j - i) ≡ j = omega arith in
+      let at : (xs : List ℕ) → getD xs j 0 ≡ getD xs (i + (j - i)) 0 = λ xs. rw e in
+      ap (λ (t : List ℕ). getD t j 0) (r .written)
+      ∙ at (tabulate i f ++ drop i d)
+      ∙ ap (λ (k : ℕ). getD (tabulate i f ++ drop i d) (k + (j - i)) 0) (sym (length-tabulate i f))
+      ∙ getD-append-add (tabulate i f) (drop i d) (j - i) 0
+      ∙ getD-drop i d (j - i) 0
+      ∙ sym (at d)

@@ -1,0 +1,10 @@
+-- The first index at which a test holds.
+use Prim.Native.Nat.{ℕ, zero, suc}
+use mathlib.Core.Bool.{Bool, cond}
+use lib.Dec.{ltb}
+
+-- the first index below n at which the test holds, and n where there is none
+unfoldable pub firstTo : ℕ → (ℕ → Bool) → ℕ
+firstTo zero test = 0
+firstTo (suc n) test =
+    cond (ltb (firstTo n test) n) (firstTo n test) (cond (test n) n (suc n))

@@ -1,0 +1,5 @@
+pub mod Sum
+pub mod First
+pub mod Greatest
+pub mod Table
+pub mod Signed

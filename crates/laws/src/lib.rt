@@ -1,0 +1,1 @@
+// Definitions and laws on numbers and lists; no camera, and no code.

@@ -1,0 +1,5 @@
+pub mod Sides
+pub mod Searches
+pub mod Walks
+pub mod Views
+pub mod Verdicts

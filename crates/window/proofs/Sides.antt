@@ -1,0 +1,69 @@
+-- What legal sides and a legal full scale are, and how many sites they make.
+use Prim.Native.Nat.{ℕ, _*_, _%_, _≤_, _<_}
+use mathlib.Core.Bool.{true, false, not, _||_}
+use mathlib.Core.Logic.{⊎-elim}
+use mathlib.Core.Path.{_≡_}
+use native.Mathlib.Nat.{mul-le-mul}
+use native.Mathlib.Omega.{arith}
+use lib.Dec.{eqb, ltb}
+use borrow.Author.Tests.{ltb-false, eqb-true, eqb-false, not-false}
+use Rattle.laws.proofs.Cases.{neither, true-or-false}
+use Rattle.window.specs.Shape.{badSide, badSides, badScale, sitesOf}
+
+pub record Side (n : ℕ) : Type 0 where
+  pub even : n % 2 ≡ 0
+  pub low : 2 ≤ n
+  pub high : n ≤ 128
+
+pub side : (n : ℕ) → badSide n ≡ false → Side n
+unfolding badSide
+side n e =
+    let odd = neither (not (eqb (n % 2) 0)) (ltb n 2 || ltb 128 n) e in
+    let out = neither (ltb n 2) (ltb 128 n) (odd .1) in
+    record {
+      even = eqb-true (n % 2) 0 (not-false (eqb (n % 2) 0) (odd .0));
+      low = ltb-false n 2 (out .0);
+      high = ltb-false 128 n (out .1);
+    }
+
+pub record Sides (w h : ℕ) : Type 0 where
+  pub wide : Side w
+  pub high : Side h
+  pub sites : sitesOf w h ≡ h * w
+  pub few : h * w ≤ 16384
+
+pub sides : (w h : ℕ) → badSides w h ≡ false → Sides w h
+unfolding badSides sitesOf
+sides w h e =
+    let both = neither (badSide w) (badSide h) e in
+    let wide = side w (both .0) in
+    let high = side h (both .1) in
+    record { wide = wide; high = high; sites = rw e; few = mul-le-mul (high .high) (wide .high) }
+
+-- sides that no window has make no site
+pub no-sites : (w h : ℕ) → badSides w h ≡ true → sitesOf w h ≡ 0
+unfolding sitesOf
+no-sites w h e = rw e
+
+-- so sides that make one are legal
+pub some-sites : (w h : ℕ) → 0 < sitesOf w h → Sides w h
+some-sites w h l =
+    ⊎-elim (λ e. absurd (omega (arith, no-sites w h e))) (λ e. sides w h e) (true-or-false (badSides w h))
+
+pub sites-few : (w h : ℕ) → sitesOf w h ≤ 16384
+sites-few w h =
+    ⊎-elim
+    (λ e. omega (arith, no-sites w h e))
+    (λ e. let s = sides w h e in omega (arith, s .sites))
+    (true-or-false (badSides w h))
+
+pub record Scale (full : ℕ) : Type 0 where
+  pub low : 1 ≤ full
+  pub high : full ≤ 4095
+
+pub scale : (full : ℕ) → badScale full ≡ false → Scale full
+unfolding badScale
+scale full e =
+    let out = neither (eqb full 0) (ltb 4095 full) e in
+    let some = eqb-false full 0 (out .0) in
+    record { low = omega arith; high = ltb-false 4095 full (out .1) }

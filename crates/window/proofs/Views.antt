@@ -1,0 +1,52 @@
+-- The laws of what is seen through a mask.
+use Prim.Native.Nat.{ℕ, _≤_, zero-le}
+use mathlib.Core.Bool.{Bool, true, false, cond}
+use mathlib.Core.List.{List}
+use mathlib.Core.Path.{_≡_, refl, fun-ext}
+use native.Mathlib.Omega.{arith}
+use lib.ListN.{length, getD}
+use borrow.Author.Tests.{eq-eqb, ne-eqb}
+use Rattle.window.specs.View.{surveyed, seenAt, seen, one}
+
+module _ (code value : ℕ) where
+  pub seen-in : code ≡ 0 → seenAt code value ≡ value
+  unfolding seenAt
+  seen-in e = rw (eq-eqb code 0 e)
+
+  pub seen-out : (code ≡ 0 → ⊥) → seenAt code value ≡ 0
+  unfolding seenAt
+  seen-out e = rw (ne-eqb code 0 e)
+
+  pub seen-le : (b : ℕ) → value ≤ b → seenAt code value ≤ b
+  unfolding seenAt
+  seen-le b h = by (surveyed code)
+    where
+      by : (t : Bool) → cond t value 0 ≤ b
+      by true = h
+      by false = zero-le
+
+-- what stands at a site
+pub seen-is : (mask frame : List ℕ) (i : ℕ) → seen mask frame i ≡ seenAt (getD mask i 0) (getD frame i 0)
+unfolding seen
+seen-is mask frame i = refl
+
+pub one-is : (mask : List ℕ) (i : ℕ) → one mask i ≡ seenAt (getD mask i 0) 1
+unfolding one
+one-is mask i = refl
+
+pub one-le : (mask : List ℕ) (i : ℕ) → one mask i ≤ 1
+one-le mask i = rw one-is (seen-le (getD mask i 0) 1 1 (omega arith))
+
+-- two frames of one length that hold the same at every surveyed site
+pub record Agree (mask f g : List ℕ) : Type 0 where
+  pub long : length f ≡ length g
+  pub same : (i : ℕ) → surveyed (getD mask i 0) ≡ true → getD f i 0 ≡ getD g i 0
+
+-- are seen alike
+pub same-view : {mask f g : List ℕ} → Agree mask f g → seen mask f ≡ seen mask g
+unfolding seen seenAt
+same-view {mask} {f} {g} a = fun-ext (λ i. by (surveyed (getD mask i 0)) (a .same i))
+  where
+    by : (t : Bool) {x y : ℕ} → (t ≡ true → x ≡ y) → cond t x 0 ≡ cond t y 0
+    by true h = h refl
+    by false h = refl

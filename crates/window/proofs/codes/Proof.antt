@@ -1,0 +1,34 @@
+-- `codes` is right because the search is of all h rows of w where the mask holds them, and of nothing otherwise.
+use mathlib.Core.Path.{sym, _∙_}
+use lib.ListN.{length}
+use borrow.Author.Needs.{needs}
+use Rattle.window.proofs.Walks.{Whole, found, walked-some, none-walked}
+use Rattle.window.proofs.codes.Statement.{statement}
+use Rattle.window.proofs.codes.Tie as tie
+
+masked : (c : tie.Else1)
+    → Whole (c .before .before .before .args .width) (c .before .before .before .args .height) (length (c .before .before .before .args .mask .now))
+masked c = walked-some _ _ _ (λ e. c .if1 .left (c .before .walkable .ensures ∙ e))
+
+walkable-requires : tie.Need-walkable-requires
+walkable-requires c κs = search needs
+
+returns : tie.Need-returns
+returns c = none-walked 5 _ _ (sym (c .before .walkable .ensures) ∙ c .if1 .taken)
+
+first-bad-code-requires : tie.Need-first-bad-code-requires
+first-bad-code-requires c κs = masked c .holds
+
+refuse-if-requires : tie.Need-refuse-if-requires
+refuse-if-requires c κs = search needs
+
+returns-2 : tie.Need-returns-2
+returns-2 c =
+    let n = masked (c .before .before) .sites in
+    c .refuse-if .ensures
+    ∙ found 5 _ _ _ _ _ (c .before .before .before .walkable .ensures ∙ n) n (c .before .first-bad-code .ensures)
+
+pub codes-spec : {M : Type 1} → statement M
+codes-spec =
+    tie.close
+    (tie.spec walkable-requires returns first-bad-code-requires refuse-if-requires returns-2)

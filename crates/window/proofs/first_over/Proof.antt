@@ -1,0 +1,111 @@
+-- `first_over` is right because nothing that is seen at a site passed is above full scale: it stops at the first that is, or past the last.
+use Prim.Native.Nat.{_*_, _-_, _<_}
+use mathlib.Core.Path.{_≡_, sym, ap, _∙_}
+use native.Mathlib.Omega.{arith}
+use lib.Dec.{ltb}
+use borrow.Author.Needs.{needs}
+use borrow.Author.Tests.{lt-ltb, le-ltb}
+use Rattle.window.specs.View.{above, seen}
+use Rattle.window.proofs.Searches.{AtRow, AtSite, search-begins, row-begins, site-in, site-passed, row-passed, search-ends, search-stops}
+use Rattle.window.proofs.Views.{seen-is}
+use Rattle.window.proofs.first_over.Statement.{statement}
+use Rattle.window.proofs.first_over.Tie as tie
+
+abbrev Inv-loop : tie.InvT-loop
+Inv-loop width height full-scale mask frame at₀ y x₀ at x = AtSite (above full-scale (seen mask frame)) width y x at
+
+abbrev μ-loop : tie.MeasureT-loop
+μ-loop width height full-scale mask frame at₀ y x₀ at x = width - x
+
+abbrev Inv-rows : tie.InvT-rows
+Inv-rows width height full-scale mask frame at₀ y₀ at y = AtRow (above full-scale (seen mask frame)) width height y at
+
+abbrev μ-rows : tie.MeasureT-rows
+μ-rows width height full-scale mask frame at₀ y₀ at y = height - y
+
+abbrev Begun : tie.In-loop Inv-loop μ-loop Inv-rows μ-rows → tie.Start Inv-loop μ-loop Inv-rows μ-rows
+Begun c = c .before .before .before .before .before .before
+
+inside : (c : tie.In-loop Inv-loop μ-loop Inv-rows μ-rows) → c .before .loop .at < Begun c .args .height * Begun c .args .width
+inside c = site-in (c .before .loop .inv) (c .before .before .rows-test .taken) (c .loop-test .taken)
+
+-- what the test compares is what is seen at the site
+seen-here : (c : tie.After-wide Inv-loop μ-loop Inv-rows μ-rows)
+    → c .wide .result
+    ≡ seen (Begun (c .before .before .before .before) .args .mask .now) (Begun (c .before .before .before .before) .args .frame .now) (c .before .before .before .before .before .loop .at)
+seen-here c = c .wide .ensures ∙ c .before .seen-at .ensures ∙ sym (seen-is _ _ _)
+
+rows-holds : tie.Need-rows-holds Inv-loop μ-loop Inv-rows μ-rows
+rows-holds c = search-begins _ _ _
+
+loop-holds : tie.Need-loop-holds Inv-loop μ-loop Inv-rows μ-rows
+loop-holds c = row-begins (c .before .rows .inv)
+
+shared-slice-read-seen-at : tie.Need-shared-slice-read-seen-at Inv-loop μ-loop Inv-rows μ-rows
+shared-slice-read-seen-at c = omega (arith, inside (c .before))
+
+mul-seen-at : tie.Need-mul-seen-at Inv-loop μ-loop Inv-rows μ-rows
+mul-seen-at c = omega (arith, inside (c .before))
+
+shared-slice-read-seen-at-2 : tie.Need-shared-slice-read-seen-at-2 Inv-loop μ-loop Inv-rows μ-rows
+shared-slice-read-seen-at-2 c = omega (arith, inside (c .before .before))
+
+seen-at-requires : tie.Need-seen-at-requires Inv-loop μ-loop Inv-rows μ-rows
+seen-at-requires c κs = search needs
+
+wide-requires : tie.Need-wide-requires Inv-loop μ-loop Inv-rows μ-rows
+wide-requires c κs = search needs
+
+add-at : tie.Need-add-at Inv-loop μ-loop Inv-rows μ-rows
+add-at c = omega (arith, inside (c .before .before .before .before .before))
+
+add-x : tie.Need-add-x Inv-loop μ-loop Inv-rows μ-rows
+add-x c = search needs
+
+loop-less : tie.Need-loop-less Inv-loop μ-loop Inv-rows μ-rows
+loop-less c = search needs
+
+loop-again : tie.Need-loop-again Inv-loop μ-loop Inv-rows μ-rows
+loop-again c = let l = c .before .before .before .before .before in
+    site-passed (l .before .loop .inv) (l .loop-test .taken) (sym (ap (ltb _) (seen-here (c .before))) ∙ le-ltb _ _ (c .if1 .left))
+
+add-y : tie.Need-add-y Inv-loop μ-loop Inv-rows μ-rows
+add-y c = search needs
+
+rows-less : tie.Need-rows-less Inv-loop μ-loop Inv-rows μ-rows
+rows-less c = search needs
+
+rows-again : tie.Need-rows-again Inv-loop μ-loop Inv-rows μ-rows
+rows-again c = row-passed (c .before .loop .inv) (c .before .before .rows-test .taken) (c .loop-test .left)
+
+returns : tie.Need-returns Inv-loop μ-loop Inv-rows μ-rows
+returns c = search-ends (c .before .rows .inv) (c .rows-test .left)
+
+returns-2 : tie.Need-returns-2 Inv-loop μ-loop Inv-rows μ-rows
+returns-2 c = let l = c .before .before .before .before .before in
+    search-stops (l .before .loop .inv) (l .before .before .rows-test .taken) (l .loop-test .taken) (sym (ap (ltb _) (seen-here (c .before))) ∙ lt-ltb _ _ (c .if1 .taken))
+
+pub first-over-spec : {M : Type 1} → statement M
+first-over-spec =
+    tie.close
+    (tie.spec
+    Inv-loop
+    μ-loop
+    Inv-rows
+    μ-rows
+    rows-holds
+    loop-holds
+    shared-slice-read-seen-at
+    mul-seen-at
+    shared-slice-read-seen-at-2
+    seen-at-requires
+    wide-requires
+    add-at
+    add-x
+    loop-less
+    loop-again
+    add-y
+    rows-less
+    rows-again
+    returns
+    returns-2)

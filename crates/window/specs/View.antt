@@ -1,0 +1,32 @@
+-- Document 01, "Mask codes": a frame is read only through its mask, site by site.
+use Prim.Native.Nat.{ℕ}
+use mathlib.Core.Bool.{Bool, cond}
+use mathlib.Core.List.{List}
+use lib.Dec.{eqb, ltb}
+use lib.ListN.{getD}
+
+-- code 0
+abbrev pub surveyed : ℕ → Bool
+surveyed code = eqb code 0
+
+-- a code above 3
+abbrev pub badCode : List ℕ → ℕ → Bool
+badCode mask i = ltb 3 (getD mask i 0)
+
+-- a value at a site of this code: 0 where it is not surveyed
+unfoldable pub seenAt : ℕ → ℕ → ℕ
+seenAt code value = cond (surveyed code) value 0
+
+-- the sample at a surveyed site, 0 at any other
+unfoldable pub seen : List ℕ → List ℕ → ℕ → ℕ
+unfolding seenAt
+seen mask frame i = seenAt (getD mask i 0) (getD frame i 0)
+
+-- 1 at a surveyed site, 0 at any other
+unfoldable pub one : List ℕ → ℕ → ℕ
+unfolding seenAt
+one mask i = seenAt (getD mask i 0) 1
+
+-- above full scale
+abbrev pub above : ℕ → (ℕ → ℕ) → ℕ → Bool
+above full view i = ltb full (view i)
