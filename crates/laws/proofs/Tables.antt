@@ -1,7 +1,7 @@
 -- The laws of `tabulate`, and the invariant of a loop that writes a buffer.
 use Prim.Native.Nat.{ℕ, zero, suc, _+_, _-_, _<_, _≤_, suc-le-suc, zero-le}
 use mathlib.Core.List.{List, [], _∷_, _++_, append-nil}
-use mathlib.Core.Path.{_≡_, refl, sym, ap, _∙_}
+use mathlib.Core.Path.{_≡_, refl, sym, ap, _∙_, subst}
 use native.Mathlib.Nat.{not-suc-le-zero, le-of-suc-le-suc, zero-lt-suc}
 use native.Mathlib.Numerals.{add-one}
 use native.Mathlib.Omega.{arith}
@@ -57,6 +57,9 @@ stored (suc i) f (x ∷ d) l = ap (λ (t : List ℕ). f zero ∷ t) (stored i (�
 pub filling-none : (f : ℕ → ℕ) (d : List ℕ) → Filling f d d 0
 unfolding tabulate
 filling-none f d = record { within = zero-le; long = refl; written = refl }
+
+pub filling-as : {f : ℕ → ℕ} {d l : List ℕ} {i : ℕ} (j : ℕ) → i ≡ j → Filling f d l i → Filling f d l j
+filling-as {f} {d} {l} j e r = subst (λ (k : ℕ). Filling f d l k) e r
 
 module _ {f : ℕ → ℕ} {d l : List ℕ} {i : ℕ} where
   -- a turn of it

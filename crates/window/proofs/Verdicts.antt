@@ -145,20 +145,20 @@ abbrev pub numbered : List Test → Bool
 numbered [] = true
 numbered (t ∷ ts) = ltb 0 (t .number) && numbered ts
 
--- a call's number and place, and what holds of all else where it refuses: its other numbers are 0, its buffers as they were
-pub record Refuses (v : Verdict) (Untouched : Type 0) : Type 0 where
-  pub refused : (numberOf v ≡ 0 → ⊥) → Untouched
-  pub accepted : numberOf v ≡ 0 → placeOf v ≡ 0
-  pub told : numberOf v ≡ 0 → v ≡ Clear
+-- of a call's number and place, and of what holds where it refuses: its other numbers are 0, its buffers as they were
+pub record Refuses (number place : ℕ) (Untouched : Type 0) : Type 0 where
+  pub refused : (number ≡ 0 → ⊥) → Untouched
+  pub accepted : number ≡ 0 → place ≡ 0
 
 number-above : (ts : List Test) {k p : ℕ} → numbered ts ≡ true → Given ts k p → 0 < k
 number-above (t ∷ ts) e (here a) = ltb-true 0 (t .number) (and-true (ltb 0 (t .number)) (numbered ts) e .0)
 number-above (t ∷ ts) e (later a g) = number-above ts (and-true (ltb 0 (t .number)) (numbered ts) e .1) g
 
--- THE LAW: of any verdict that a table without a 0 says, and of what holds at every refusal
+-- THE LAW: of any verdict that a table without a 0 says
 pub refuses : {ts : List Test} (v : Verdict) {Untouched : Type 0}
-    → Tabled v ts → numbered ts ≡ true → ((r : Refusal) → v ≡ Refused r → Untouched) → Refuses v Untouched
-refuses Clear t n u = record { refused = λ f. absurd (f refl); accepted = λ e. refl; told = λ e. refl }
+    → Tabled v ts → numbered ts ≡ true → ((r : Refusal) → v ≡ Refused r → Untouched)
+    → Refuses (numberOf v) (placeOf v) Untouched
+refuses Clear t n u = record { refused = λ f. absurd (f refl); accepted = λ e. refl }
 refuses {ts} (Refused r) t n u =
     let above : 0 < r .number = number-above ts n (t .only (r .number) (r .place) refl) in
-    record { refused = λ f. u r refl; accepted = λ e. absurd (omega arith); told = λ e. absurd (omega arith) }
+    record { refused = λ f. u r refl; accepted = λ e. absurd (omega arith) }

@@ -1,0 +1,75 @@
+-- What the verdict makes of the answer, its numbers and the buffer.
+use Prim.Native.Nat.{ℕ, _*_, _/_}
+use mathlib.Core.Bool.{false}
+use mathlib.Core.List.{List}
+use mathlib.Core.Path.{_≡_, refl, ap₂, _∙_}
+use native.Mathlib.Nat.{mul-assoc, mul-left-comm}
+use native.Mathlib.Omega.{arith}
+use lib.Dec.{eqb}
+use lib.ListN.{length}
+use borrow.Author.Tests.{eqb-true, not-false}
+use Rattle.laws.specs.Table.{tabulate}
+use Rattle.window.specs.Shape.{badSides, sitesOf}
+use Rattle.window.specs.Verdict.{refusal, _⨟_, refuseIf}
+use Rattle.window.specs.Judge.{otherThan}
+use Rattle.window.specs.declared.Refusal.{Refusal}
+use Rattle.window.specs.declared.Verdict.{Verdict}
+use Rattle.window.specs.declared.Verdict.the-variants as verdict
+use Rattle.window.proofs.Sides.{Sides, sides}
+use Rattle.window.proofs.Verdicts.{then-clear, unless}
+use Rattle.raw.specs.Packed.{sampleAt, packedLength}
+use Rattle.raw.specs.Unpack.{unpackVerdict, answered, unpackAnswer, unpackPaper, unpackBuffer}
+use Rattle.raw.specs.declared.Unpacked.the-variants.{Done, Refused}
+
+-- what an accepted call's numbers are
+pub record Accepted (w h bytes out : ℕ) : Type 0 where
+  pub legal : Sides w h
+  pub samples : out ≡ h * w
+  pub groups : 4 * bytes ≡ 5 * out
+
+-- the sites come in fours
+quarters : {w h : ℕ} → Sides w h → h * w ≡ 4 * (h / 2 * (w / 2))
+quarters {w} {h} s =
+    let p : h ≡ 2 * (h / 2) = omega (arith, s .high .even) in
+    let q : w ≡ 2 * (w / 2) = omega (arith, s .wide .even) in
+    ap₂ (λ (x y : ℕ). x * y) p q ∙ mul-assoc 2 (h / 2) (2 * (w / 2)) ∙ omega (arith, mul-left-comm (h / 2) 2 (w / 2))
+
+five-fourths : (n k bytes : ℕ) → n ≡ 4 * k → bytes ≡ n * 5 / 4 → 4 * bytes ≡ 5 * n
+five-fourths n k bytes e b = let m : bytes ≡ 5 * k = omega arith in omega arith
+
+same-length : (n m : ℕ) → otherThan n m ≡ false → m ≡ n
+same-length n m e = eqb-true m n (not-false (eqb m n) e)
+
+module _ (w h bytes out : ℕ) where
+  pub accepted : unpackVerdict w h bytes out ≡ verdict.Clear → Accepted w h bytes out
+  unfolding unpackVerdict
+  accepted e =
+      let n = sitesOf w h in
+      let one = then-clear (refuseIf 1 0 (badSides w h)) (refuseIf 4 0 (otherThan (packedLength 4 n) bytes) ⨟ refuseIf 4 0 (otherThan n out)) e in
+      let fours = then-clear (refuseIf 4 0 (otherThan (packedLength 4 n) bytes)) (refuseIf 4 0 (otherThan n out)) (one .1) in
+      let s = sides w h (unless 1 0 (badSides w h) (one .0)) in
+      let b = same-length (packedLength 4 n) bytes (unless 4 0 (otherThan (packedLength 4 n) bytes) (fours .0)) in
+      let o = same-length n out (unless 4 0 (otherThan n out) (fours .1)) in
+      let whole = five-fourths n (h / 2 * (w / 2)) bytes (s .sites ∙ quarters s) b in
+      record { legal = s; samples = o ∙ s .sites; groups = omega (arith, whole, o) }
+
+  pub done-clear : unpackAnswer w h bytes out ≡ Done → unpackVerdict w h bytes out ≡ verdict.Clear
+  unfolding unpackAnswer
+  done-clear e = by (unpackVerdict w h bytes out) refl e
+    where
+      by : (v : Verdict) → unpackVerdict w h bytes out ≡ v → answered v ≡ Done → v ≡ verdict.Clear
+      by verdict.Clear p q = refl
+      by (verdict.Refused r) p q = let z : _≡_ {A = ℕ} 0 1 = cc in absurd (omega arith)
+
+module _ (w h : ℕ) (bytes out : List ℕ) where
+  pub refused-is : (r : Refusal) → unpackVerdict w h (length bytes) (length out) ≡ verdict.Refused r
+      → (Refused r ≡ unpackAnswer w h (length bytes) (length out))
+      × ((r ≡ unpackPaper w h (length bytes) (length out)) × (out ≡ unpackBuffer w h bytes out))
+  unfolding unpackAnswer unpackPaper unpackBuffer
+  refused-is r e = rw e (refl, (refl, refl))
+
+  pub accepted-is : unpackVerdict w h (length bytes) (length out) ≡ verdict.Clear
+      → (Done ≡ unpackAnswer w h (length bytes) (length out))
+      × ((refusal 0 0 ≡ unpackPaper w h (length bytes) (length out)) × (tabulate (length out) (sampleAt 2 4 bytes) ≡ unpackBuffer w h bytes out))
+  unfolding unpackAnswer unpackPaper unpackBuffer
+  accepted-is e = rw e (refl, (refl, refl))
