@@ -6,7 +6,8 @@ use mathlib.Core.Path.{_≡_, refl}
 use native.Mathlib.Nat.{le-of-suc-le-suc, eq-or-lt-of-le}
 use native.Mathlib.Numerals.{add-one}
 use native.Mathlib.Omega.{arith}
-use borrow.Author.Tests.{lt-ltb, le-ltb}
+use lib.Dec.{ltb}
+use borrow.Author.Tests.{lt-ltb, le-ltb, ltb-false}
 use Rattle.laws.specs.First.{firstTo}
 use Rattle.laws.proofs.Cases.{lt-or-ge, true-or-false}
 
@@ -67,3 +68,7 @@ module _ (test : ℕ → Bool) where
       by : (b : Bool) → test n ≡ b → cond b n (suc n) < suc n → test (cond b n (suc n)) ≡ true
       by true t k = t
       by false t k = absurd (omega arith)
+
+  -- where nothing is found, the test holds nowhere
+  pub first-nowhere : (n : ℕ) → ltb (firstTo n test) n ≡ false → (i : ℕ) → i < n → test i ≡ false
+  first-nowhere n e i l = first-before n i (omega (arith, ltb-false (firstTo n test) n e))

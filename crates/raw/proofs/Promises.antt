@@ -10,13 +10,13 @@ use Rattle.window.specs.Shape.{badSide, badSides, sitesOf}
 use Rattle.window.specs.Verdict.{_⨟_, refuseIf}
 use Rattle.window.specs.Judge.{otherThan}
 use Rattle.window.specs.declared.Verdict.the-variants as verdict
-use Rattle.window.proofs.Verdicts.{Tabled, Refuses, test, tabled, refuses}
+use Rattle.window.proofs.Verdicts.{Tabled, Refuses, test, refuses}
 use Rattle.raw.specs.Packed.{sampleAt, packedLength}
 use Rattle.raw.specs.Unpack.{unpackVerdict, unpackAnswer, unpackPaper, unpackBuffer}
 use Rattle.raw.specs.declared.Unpacked.{Unpacked}
 use Rattle.raw.specs.declared.Unpacked.the-variants.{Done}
 use Rattle.raw.proofs.Samples.{sample-below, sample-occurs}
-use Rattle.raw.proofs.Unpacks.{accepted-is, done-clear}
+use Rattle.raw.proofs.Unpacks.{table, accepted-is, done-clear}
 
 module _ (w h : ℕ) (bytes out : List ℕ) where
   -- only: no second answer and no second final buffer meets the promise
@@ -32,8 +32,7 @@ module _ (w h : ℕ) (bytes out : List ℕ) where
       ∷ test 4 0 (otherThan (packedLength 4 (sitesOf w h)) (length bytes))
       ∷ test 4 0 (otherThan (sitesOf w h) (length out))
       ∷ [])
-  unfolding unpackVerdict
-  given = tabled _ _
+  given = table w h (length bytes) (length out)
 
   -- refused: where the number is not 0 the buffer is as it was, and where it is 0 so is the place
   pub refused : Refuses (unpackPaper w h (length bytes) (length out) .number) (unpackPaper w h (length bytes) (length out) .place)

@@ -1,22 +1,20 @@
 -- What the verdict makes of the answer, its numbers and the buffer.
 use Prim.Native.Nat.{ℕ, _*_, _/_}
-use mathlib.Core.Bool.{false}
-use mathlib.Core.List.{List}
+use mathlib.Core.List.{List, [], _∷_}
 use mathlib.Core.Path.{_≡_, refl, ap₂, _∙_}
 use native.Mathlib.Nat.{mul-assoc, mul-left-comm}
 use native.Mathlib.Omega.{arith}
-use lib.Dec.{eqb}
 use lib.ListN.{length}
-use borrow.Author.Tests.{eqb-true, not-false}
 use Rattle.laws.specs.Table.{tabulate}
 use Rattle.window.specs.Shape.{badSides, sitesOf}
-use Rattle.window.specs.Verdict.{refusal, _⨟_, refuseIf}
+use Rattle.window.specs.Verdict.{refusal}
 use Rattle.window.specs.Judge.{otherThan}
 use Rattle.window.specs.declared.Refusal.{Refusal}
 use Rattle.window.specs.declared.Verdict.{Verdict}
 use Rattle.window.specs.declared.Verdict.the-variants as verdict
 use Rattle.window.proofs.Sides.{Sides, sides}
-use Rattle.window.proofs.Verdicts.{then-clear, unless}
+use Rattle.window.proofs.Verdicts.{Tabled, test, tabled, passed-head, passed-tail}
+use Rattle.window.proofs.Chains.{same-length}
 use Rattle.raw.specs.Packed.{sampleAt, packedLength}
 use Rattle.raw.specs.Unpack.{unpackVerdict, answered, unpackAnswer, unpackPaper, unpackBuffer}
 use Rattle.raw.specs.declared.Unpacked.the-variants.{Done, Refused}
@@ -37,19 +35,21 @@ quarters {w} {h} s =
 five-fourths : (n k bytes : ℕ) → n ≡ 4 * k → bytes ≡ n * 5 / 4 → 4 * bytes ≡ 5 * n
 five-fourths n k bytes e b = let m : bytes ≡ 5 * k = omega arith in omega arith
 
-same-length : (n m : ℕ) → otherThan n m ≡ false → m ≡ n
-same-length n m e = eqb-true m n (not-false (eqb m n) e)
+-- the tests in the order of document 01
+pub table : (w h bytes out : ℕ)
+    → Tabled (unpackVerdict w h bytes out)
+    (test 1 0 (badSides w h) ∷ test 4 0 (otherThan (packedLength 4 (sitesOf w h)) bytes) ∷ test 4 0 (otherThan (sitesOf w h) out) ∷ [])
+unfolding unpackVerdict
+table w h bytes out = tabled _ _
 
 module _ (w h bytes out : ℕ) where
   pub accepted : unpackVerdict w h bytes out ≡ verdict.Clear → Accepted w h bytes out
-  unfolding unpackVerdict
   accepted e =
       let n = sitesOf w h in
-      let one = then-clear (refuseIf 1 0 (badSides w h)) (refuseIf 4 0 (otherThan (packedLength 4 n) bytes) ⨟ refuseIf 4 0 (otherThan n out)) e in
-      let fours = then-clear (refuseIf 4 0 (otherThan (packedLength 4 n) bytes)) (refuseIf 4 0 (otherThan n out)) (one .1) in
-      let s = sides w h (unless 1 0 (badSides w h) (one .0)) in
-      let b = same-length (packedLength 4 n) bytes (unless 4 0 (otherThan (packedLength 4 n) bytes) (fours .0)) in
-      let o = same-length n out (unless 4 0 (otherThan n out) (fours .1)) in
+      let p = table w h bytes out .clear e in
+      let s = sides w h (passed-head p) in
+      let b = same-length (packedLength 4 n) bytes (passed-head (passed-tail p)) in
+      let o = same-length n out (passed-head (passed-tail (passed-tail p))) in
       let whole = five-fourths n (h / 2 * (w / 2)) bytes (s .sites ∙ quarters s) b in
       record { legal = s; samples = o ∙ s .sites; groups = omega (arith, whole, o) }
 

@@ -3,3 +3,4 @@ pub mod Searches
 pub mod Walks
 pub mod Views
 pub mod Verdicts
+pub mod Chains

@@ -75,6 +75,12 @@ pub data Passed : List Test → Type 0 where
   end : Passed []
   past : {t : Test} {ts : List Test} → t .applies ≡ false → Passed ts → Passed (t ∷ ts)
 
+pub passed-head : {t : Test} {ts : List Test} → Passed (t ∷ ts) → t .applies ≡ false
+passed-head (past e p) = e
+
+pub passed-tail : {t : Test} {ts : List Test} → Passed (t ∷ ts) → Passed ts
+passed-tail (past e p) = p
+
 -- a verdict is what a table says: a number is given exactly as tabled, and nothing is where no test applies
 pub record Tabled (v : Verdict) (ts : List Test) : Type 0 where
   pub only : (k p : ℕ) → v ≡ Refused (refusal k p) → Given ts k p

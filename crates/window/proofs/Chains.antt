@@ -1,0 +1,48 @@
+-- What the tests that calls share tell where they do not apply, and why a later test may be asked of whole buffers alone.
+use Prim.Native.Nat.{ℕ, min, _<_, _≤_}
+use mathlib.Core.Bool.{false}
+use mathlib.Core.List.{List}
+use mathlib.Core.Path.{_≡_, ap}
+use native.Mathlib.Omega.{arith}
+use lib.Dec.{eqb, ltb}
+use lib.ListN.{length, getD}
+use borrow.Author.Tests.{eqb-true, ltb-false, not-false}
+use Rattle.laws.specs.First.{firstTo}
+use Rattle.laws.proofs.Firsts.{first-nowhere}
+use Rattle.window.specs.Shape.{sitesOf}
+use Rattle.window.specs.View.{badCode, above, seen}
+use Rattle.window.specs.Verdict.{_⨟_, refuseIf}
+use Rattle.window.specs.Judge.{otherThan, codesOf, samplesOf, walked}
+use Rattle.window.specs.declared.Verdict.{Verdict}
+use Rattle.window.proofs.Verdicts.{then-same, unless}
+use Rattle.window.proofs.Walks.{walked-whole}
+
+-- 4 does not apply: the length is the one needed
+pub same-length : (needed long : ℕ) → otherThan needed long ≡ false → long ≡ needed
+same-length needed long e = eqb-true long needed (not-false (eqb long needed) e)
+
+-- 5 does not apply: every code is at most 3
+pub legal-codes : (n : ℕ) (mask : List ℕ) → ltb (firstTo n (badCode mask)) n ≡ false → (i : ℕ) → i < n → getD mask i 0 ≤ 3
+legal-codes n mask e i l = ltb-false 3 (getD mask i 0) (first-nowhere (badCode mask) n e i l)
+
+-- 6 does not apply: nothing that is seen is above full scale
+pub in-range : (n full : ℕ) (view : ℕ → ℕ) → ltb (firstTo n (above full view)) n ≡ false → (i : ℕ) → i < n → view i ≤ full
+in-range n full view e i l = ltb-false full (view i) (first-nowhere (above full view) n e i l)
+
+-- what follows 4 is judged only of a buffer of the length needed
+pub measured : (needed long : ℕ) {b d : Verdict} → (long ≡ needed → b ≡ d)
+    → refuseIf 4 0 (otherThan needed long) ⨟ b ≡ refuseIf 4 0 (otherThan needed long) ⨟ d
+measured needed long f =
+    then-same (refuseIf 4 0 (otherThan needed long)) (λ e. f (same-length needed long (unless 4 0 (otherThan needed long) e)))
+
+-- so what `codes` and `samples` walk there is the whole window
+pub codes-whole : (w h : ℕ) (mask : List ℕ) → length mask ≡ sitesOf w h
+    → codesOf (walked w h (length mask)) mask ≡ codesOf (sitesOf w h) mask
+codes-whole w h mask e = rw (walked-whole w h (length mask) e)
+
+pub samples-whole : (w h full : ℕ) (mask frame : List ℕ) → length mask ≡ sitesOf w h → length frame ≡ sitesOf w h
+    → samplesOf (min (walked w h (length mask)) (walked w h (length frame))) full (seen mask frame) ≡ samplesOf (sitesOf w h) full (seen mask frame)
+samples-whole w h full mask frame e f =
+    let n : min (walked w h (length mask)) (walked w h (length frame)) ≡ sitesOf w h =
+    omega (arith, walked-whole w h (length mask) e, walked-whole w h (length frame) f) in
+    ap (λ (k : ℕ). samplesOf k full (seen mask frame)) n
