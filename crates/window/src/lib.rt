@@ -118,8 +118,8 @@ fn first_over(width: usize, height: usize, full_scale: u64, mask: &[u8], frame: 
     ensures { λ r. ⌜ r ≡ firstTo (height * width) (above «full_scale» (seen (now (mask .entry)) (now (frame .entry)))) ⌝ }
 {
     let mut at: usize = 0;
-    'rows: for y in 0..height {
-        for x in 0..width {
+    'rows: for row in 0..height {
+        for column in 0..width {
             if full_scale < wide(seen_at(mask[at], frame[at])) {
                 break 'rows;
             }

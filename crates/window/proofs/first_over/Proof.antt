@@ -12,16 +12,16 @@ use Rattle.window.proofs.first_over.Statement.{statement}
 use Rattle.window.proofs.first_over.Tie as tie
 
 abbrev Inv-loop : tie.InvT-loop
-Inv-loop width height full-scale mask frame at₀ y x₀ at x = AtSite (above full-scale (seen mask frame)) width y x at
+Inv-loop width height full-scale mask frame at₀ row column₀ at column = AtSite (above full-scale (seen mask frame)) width row column at
 
 abbrev μ-loop : tie.MeasureT-loop
-μ-loop width height full-scale mask frame at₀ y x₀ at x = width - x
+μ-loop width height full-scale mask frame at₀ row column₀ at column = width - column
 
 abbrev Inv-rows : tie.InvT-rows
-Inv-rows width height full-scale mask frame at₀ y₀ at y = AtRow (above full-scale (seen mask frame)) width height y at
+Inv-rows width height full-scale mask frame at₀ row₀ at row = AtRow (above full-scale (seen mask frame)) width height row at
 
 abbrev μ-rows : tie.MeasureT-rows
-μ-rows width height full-scale mask frame at₀ y₀ at y = height - y
+μ-rows width height full-scale mask frame at₀ row₀ at row = height - row
 
 abbrev Begun : tie.In-loop Inv-loop μ-loop Inv-rows μ-rows → tie.Start Inv-loop μ-loop Inv-rows μ-rows
 Begun c = c .before .before .before .before .before .before
@@ -59,8 +59,8 @@ wide-requires c κs = search needs
 add-at : tie.Need-add-at Inv-loop μ-loop Inv-rows μ-rows
 add-at c = omega (arith, inside (c .before .before .before .before .before))
 
-add-x : tie.Need-add-x Inv-loop μ-loop Inv-rows μ-rows
-add-x c = search needs
+add-column : tie.Need-add-column Inv-loop μ-loop Inv-rows μ-rows
+add-column c = search needs
 
 loop-less : tie.Need-loop-less Inv-loop μ-loop Inv-rows μ-rows
 loop-less c = search needs
@@ -69,8 +69,8 @@ loop-again : tie.Need-loop-again Inv-loop μ-loop Inv-rows μ-rows
 loop-again c = let l = c .before .before .before .before .before in
     site-passed (l .before .loop .inv) (l .loop-test .taken) (sym (ap (ltb _) (seen-here (c .before))) ∙ le-ltb _ _ (c .if1 .left))
 
-add-y : tie.Need-add-y Inv-loop μ-loop Inv-rows μ-rows
-add-y c = search needs
+add-row : tie.Need-add-row Inv-loop μ-loop Inv-rows μ-rows
+add-row c = search needs
 
 rows-less : tie.Need-rows-less Inv-loop μ-loop Inv-rows μ-rows
 rows-less c = search needs
@@ -101,10 +101,10 @@ first-over-spec =
     seen-at-requires
     wide-requires
     add-at
-    add-x
+    add-column
     loop-less
     loop-again
-    add-y
+    add-row
     rows-less
     rows-again
     returns

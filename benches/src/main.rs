@@ -1,0 +1,34 @@
+//! Times each call of the library at 128 x 128 beside the same work in plain Rust.
+//!
+//! `bench` prints the least nanoseconds of many rounds, and the library's over plain Rust's. `bench --smoke` times
+//! nothing: it runs each form once on each input and sees that all give the same answer and the same buffers.
+//!
+//! The library is what tools/native-lib makes: on x86-64 the archive of `rt staticlib`, on another machine the same
+//! proved module compiled by another back end.
+
+mod calls;
+mod contest;
+
+use std::process::ExitCode;
+
+fn main() -> ExitCode {
+    let words: Vec<String> = std::env::args().skip(1).collect();
+    match words.iter().map(String::as_str).collect::<Vec<_>>()[..] {
+        [] => {
+            println!(
+                "{:<18} {:<16} {:>12} {:>12} {:>7}",
+                "call", "plain Rust", "library ns", "plain ns", "ratio"
+            );
+            calls::all().iter().for_each(|contest| contest.time());
+            ExitCode::SUCCESS
+        }
+        ["--smoke"] => {
+            let differences: usize = calls::all().iter().map(|contest| contest.compare()).sum();
+            ExitCode::from(u8::from(differences != 0))
+        }
+        _ => {
+            eprintln!("usage: bench [--smoke]");
+            ExitCode::from(2)
+        }
+    }
+}

@@ -1,0 +1,1 @@
+// Document 01's worked examples, over the definitions; no code.
