@@ -1,0 +1,54 @@
+//! Ways to spoil a case, alone and together, so that the order of refusals shows.
+
+use super::dice::Dice;
+use super::shapes;
+use super::tally::{Case, Tally};
+use crate::library::Lent;
+
+pub type Spoiler<C> = fn(&mut C, &mut Dice);
+
+/// Every set of spoilers, the empty one included, each on a new case.
+/// They are applied in turn, so those that change contents come before those that change lengths.
+pub fn every_set<C: Case>(
+    tally: &mut Tally,
+    dice: &mut Dice,
+    make: fn(&mut Dice) -> C,
+    spoilers: &[Spoiler<C>],
+) {
+    for set in 0..1u32 << spoilers.len() {
+        let mut case = make(dice);
+        for (at, spoil) in spoilers.iter().enumerate() {
+            if set >> at & 1 == 1 {
+                spoil(&mut case, dice);
+            }
+        }
+        tally.run(case);
+    }
+}
+
+/// Turns one side into an illegal one, the buffers staying as they are.
+pub fn side(width: &mut usize, height: &mut usize, dice: &mut Dice) {
+    let bad = dice.among(&shapes::illegal());
+    match dice.below(3) {
+        0 => *width = bad.width.max(bad.height),
+        1 => *height = bad.width.max(bad.height),
+        _ => (*width, *height) = (bad.width, bad.height),
+    }
+}
+
+/// The lengths tried where another is needed.
+pub fn wrong_lengths(right: usize) -> [usize; 6] {
+    [
+        right.saturating_sub(1),
+        right + 1,
+        0,
+        right / 2,
+        right * 2,
+        right + 4,
+    ]
+}
+
+pub fn length<T: Copy + From<u8>>(buffer: &mut Lent<T>, dice: &mut Dice) {
+    let right = buffer.len();
+    buffer.resize(dice.among(&wrong_lengths(right)), T::from(0));
+}

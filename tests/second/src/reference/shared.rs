@@ -1,0 +1,118 @@
+//! What the calls share: the answer, the refusals and the sides.
+
+/// Number and place are 0 where the call is accepted; a float stands as its bits.
+#[derive(Clone, Debug, PartialEq, Eq)]
+pub struct Answer {
+    pub number: u64,
+    pub place: u64,
+    pub figures: Vec<i128>,
+}
+
+#[derive(Clone, Copy, Debug, PartialEq, Eq)]
+pub struct Refusal {
+    pub number: u64,
+    pub place: u64,
+}
+
+pub type Outcome = Result<Vec<i128>, Refusal>;
+
+/// A refusal leaves every other number of the answer at 0.
+pub fn settle(outcome: Outcome, figures: usize) -> Answer {
+    match outcome {
+        Ok(found) => {
+            assert_eq!(found.len(), figures);
+            Answer {
+                number: 0,
+                place: 0,
+                figures: found,
+            }
+        }
+        Err(refusal) => Answer {
+            number: refusal.number,
+            place: refusal.place,
+            figures: vec![0; figures],
+        },
+    }
+}
+
+/// Refuses with `number` at place 0 when `applies`.
+pub fn refuse_if(applies: bool, number: u64) -> Result<(), Refusal> {
+    if applies {
+        return Err(Refusal { number, place: 0 });
+    }
+    Ok(())
+}
+
+fn side_is_legal(side: usize) -> bool {
+    (2..=128).contains(&side) && side.is_multiple_of(2)
+}
+
+/// Refusal 1; the count of sites where both sides are legal.
+pub fn sites_of(width: usize, height: usize) -> Result<usize, Refusal> {
+    refuse_if(!side_is_legal(width) || !side_is_legal(height), 1)?;
+    Ok(width * height)
+}
+
+/// Refusal 4, over pairs of (length lent, length needed).
+pub fn check_lengths(lengths: &[(usize, usize)]) -> Result<(), Refusal> {
+    refuse_if(lengths.iter().any(|(lent, needed)| lent != needed), 4)
+}
+
+#[cfg(test)]
+mod tests {
+    use super::*;
+
+    #[test]
+    fn sides_on_both_sides_of_each_limit() {
+        for side in [2, 4, 126, 128] {
+            assert_eq!(sites_of(side, 2), Ok(2 * side));
+            assert_eq!(sites_of(2, side), Ok(2 * side));
+        }
+        for side in [
+            0,
+            1,
+            3,
+            127,
+            129,
+            130,
+            1 << 32,
+            1 << 63,
+            usize::MAX - 1,
+            usize::MAX,
+        ] {
+            assert_eq!(
+                sites_of(side, 2),
+                Err(Refusal {
+                    number: 1,
+                    place: 0
+                })
+            );
+            assert_eq!(
+                sites_of(2, side),
+                Err(Refusal {
+                    number: 1,
+                    place: 0
+                })
+            );
+        }
+    }
+
+    #[test]
+    fn a_refusal_leaves_zeros() {
+        let refused = settle(
+            Err(Refusal {
+                number: 6,
+                place: 3,
+            }),
+            2,
+        );
+        assert_eq!(
+            refused,
+            Answer {
+                number: 6,
+                place: 3,
+                figures: vec![0, 0]
+            }
+        );
+    }
+}
