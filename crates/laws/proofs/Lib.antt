@@ -5,3 +5,4 @@ pub mod Greatests
 pub mod Tables
 pub mod Signeds
 pub mod Machine
+pub mod Squares

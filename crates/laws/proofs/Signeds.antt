@@ -7,7 +7,7 @@ use native.Mathlib.Omega.{arith}
 use lib.Dec.{ltb}
 use lib.IntN.{ℤ, pos, negsuc, negℤ, _+ℤ_, _-ℤ_, _*ℤ_, +ℤ-assoc, +ℤ-comm, +ℤ-idl, +ℤ-idr, +ℤ-invr, negℤ-+ℤ, negℤ-negℤ}
 use lib.Signed.{ltZ}
-use borrow.Author.Tests.{lt-ltb, le-ltb}
+use borrow.Author.Tests.{lt-ltb, le-ltb, ltb-false}
 use Rattle.laws.specs.Signed.{_⊖_, apart}
 use Rattle.laws.proofs.Cases.{lt-or-ge, ltb-iff}
 
@@ -75,6 +75,21 @@ pub ⊖-ltZ : (a b c d : ℕ) → ltZ (a ⊖ b) (c ⊖ d) ≡ ltb (a + d) (c + b
     (λ k. rw (⊖-ge a b l, ⊖-ge c d k) (ltb-iff (a - b) (c - d) (a + d) (c + b) (λ h. omega arith) (λ h. omega arith)))
     (lt-or-ge c d))
     (lt-or-ge a b)
+
+-- and only there
+pub ⊖-cross : (a b c d : ℕ) → a ⊖ b ≡ c ⊖ d → a + d ≡ c + b
+⊖-cross a b c d e =
+    let up : c + b ≤ a + d = no-less a b c d e in
+    let down : a + d ≤ c + b = no-less c d a b (sym e) in
+    omega arith
+  where
+    no-less : (a b c d : ℕ) → a ⊖ b ≡ c ⊖ d → c + b ≤ a + d
+    no-less a b c d e =
+        ltb-false (a + d) (c + b)
+        (sym (⊖-ltZ a b c d)
+        ∙ ap (λ (z : ℤ). ltZ z (c ⊖ d)) e
+        ∙ ⊖-ltZ c d c d
+        ∙ le-ltb (c + d) (c + d) (omega arith))
 
 pub ⊖-above : (a b : ℕ) → ltZ (pos 0) (a ⊖ b) ≡ ltb b a
 ⊖-above a b =

@@ -1,7 +1,8 @@
 -- The laws of sums.
 use Prim.Native.Nat.{ℕ, zero, suc, _+_, _-_, _*_, _<_, _≤_, zero-le}
+use mathlib.Core.Logic.{⊎-elim}
 use mathlib.Core.Path.{_≡_, refl, sym, ap, ap₂, _∙_}
-use native.Mathlib.Nat.{le-refl, le-trans, le-of-eq, sub-self, add-zero, add-suc, suc-mul, add-le-add, mul-add, mul-zero}
+use native.Mathlib.Nat.{le-refl, le-trans, le-of-eq, sub-self, add-zero, add-suc, suc-mul, add-le-add, mul-add, mul-zero, le-of-suc-le-suc, eq-or-lt-of-le}
 use native.Mathlib.Numerals.{add-one}
 use native.Mathlib.Omega.{arith}
 use Rattle.laws.specs.Sum.{sumTo, sumIn, sumBox}
@@ -36,6 +37,22 @@ sum-scaled (suc n) B f g h =
     le-trans
     (add-le-add (sum-scaled n B f g (λ k l. h k (omega arith))) (h n (le-refl (suc n))))
     (le-of-eq (sym (mul-add B (sumTo n f) (f n))))
+
+-- a sum of nothing but 0
+pub sum-zero : (n : ℕ) (f : ℕ → ℕ) → ((k : ℕ) → k < n → f k ≡ 0) → sumTo n f ≡ 0
+unfolding sumTo
+sum-zero zero f h = refl
+sum-zero (suc n) f h = omega (arith, sum-zero n f (λ k l. h k (omega arith)), h n (le-refl (suc n)))
+
+-- a sum that is 0 adds nothing else
+pub zero-terms : (n : ℕ) (f : ℕ → ℕ) → sumTo n f ≡ 0 → (k : ℕ) → k < n → f k ≡ 0
+unfolding sumTo
+zero-terms zero f e k l = absurd (omega arith)
+zero-terms (suc n) f e k l =
+    ⊎-elim
+    (λ q. rw q (omega arith))
+    (λ m. zero-terms n f (omega arith) k m)
+    (eq-or-lt-of-le (le-of-suc-le-suc l))
 
 -- the sum of a sum
 pub sum-add : (n : ℕ) (f g : ℕ → ℕ) → sumTo n (λ (k : ℕ). f k + g k) ≡ sumTo n f + sumTo n g
