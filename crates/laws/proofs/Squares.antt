@@ -22,7 +22,7 @@ square-sum : (a b : ℕ) → square (a + b) ≡ square a + 2 * (a * b) + square 
 square-sum a b = simp (mul-add, add-mul) (omega (arith, mul-comm a b))
 
 -- (a − b)² + 2ab = a² + b²
-pub apart-square : (a b : ℕ) → square (apart a b) + 2 * (a * b) ≡ square a + square b
+apart-square : (a b : ℕ) → square (apart a b) + 2 * (a * b) ≡ square a + square b
 apart-square a b =
     ⊎-elim
     (λ (l : a < b). let d : apart a b ≡ b - a = omega arith in rw d (ordered a b (omega arith)))
@@ -37,7 +37,7 @@ apart-square a b =
 
 -- (2a)² = 4a²
 pub square-twice : (a : ℕ) → square (2 * a) ≡ 4 * square a
-square-twice a = simp (mul-assoc, mul-comm, mul-left-comm) (omega arith)
+square-twice a = simp (mul-assoc, mul-left-comm) (omega arith)
 
 -- 4ab ≤ (a + b)²
 pub four-times : (a b : ℕ) → 4 * (a * b) ≤ square (a + b)

@@ -1,0 +1,6 @@
+pub mod Roots
+pub mod Newton
+pub mod Rounding
+pub mod Quotients
+pub mod Division
+pub mod Noises

@@ -1,0 +1,121 @@
+-- The laws of `quotient`, for numbers up to 2 ^ 53: nothing is then too small for all 53 digits, and nothing overflows.
+use Prim.Native.Nat.{ℕ, _*_, _/_, _^_, _≤_, _<_}
+use mathlib.Core.Bool.{true, false, not, true≢false}
+use mathlib.Core.Logic.{⊎-elim}
+use mathlib.Core.Path.{_≡_, refl, sym, ap, _∙_}
+use native.Mathlib.Nat.{le-trans, le-of-eq, lt-of-le-of-lt, one-mul, zero-mul, mul-assoc, mul-le-mul-left, mul-le-mul-right, mul-pos, le-mul-of-pos-right, le-of-mul-le-mul-right, eq-zero-or-pos}
+use native.Mathlib.Omega.{arith}
+use lib.Dec.{T, lit≤, lit<}
+use lib.Pow.{pow-pos}
+use lib.Ieee.{Float, nan, inf, fin, binary64, prec, low, size, round, le, isNan, ofBits, toBits}
+use lib.Ieee.Bits.{ofBits-toBits}
+use lib.Ieee.Exact.{HasValue}
+use lib.Ieee.Fits.{round-fits}
+use lib.Ieee.Order.{round-mono}
+use lib.Ieee.Positive.{num, den, den-pos, value→cross}
+use lib.Ieee.Scale.{grid, overflow, round-val, round-same, normal-of-fraction}
+use borrow.Author.Tests.{lt-ltb, le-leb}
+use Rattle.exact.specs.Quotient.{quotient, floatZero, castable, quotientOrZero}
+use Rattle.exact.specs.Bound.{plain, CloseTo}
+use Rattle.exact.proofs.Rounding.{Within, within-apart, apart-within, grid-within, within-value}
+
+-- the fractions that are rounded here
+pub record Ranged (p q : ℕ) : Type 0 where
+  pub top : p ≤ 2 ^ 53
+  pub some : 0 < q
+  pub bottom : q ≤ 2 ^ 53
+
+-- of these, what `ratio` answers is the quotient
+pub ranged-quotient : (p q : ℕ) → Ranged p q → quotientOrZero p q ≡ quotient p q
+unfolding quotientOrZero castable
+ranged-quotient p q r = simp (lt-ltb _ _ (r .some), le-leb _ _ (r .bottom), le-leb _ _ (r .top))
+
+-- ---- zero
+pub quotient-zero : (q : ℕ) → 0 < q → quotient 0 q ≡ floatZero
+quotient-zero q Q = round-same binary64 false 0 q 0 1 Q (lit≤ tt) (sym (zero-mul q)) ∙ (unfold round in refl)
+
+-- ---- near its fraction
+all-digits : (p q : ℕ) → 0 < p → Ranged p q → prec binary64 ≤ size (p * 2 ^ low binary64 / q)
+all-digits p q P r =
+    normal-of-fraction binary64 p q (r .some)
+    (le-trans (mul-le-mul-left (2 ^ 52) (r .bottom))
+    (le-trans (lit≤ {m = 2 ^ 105} {n = 2 ^ 1074} tt)
+    (le-trans (le-of-eq (sym (one-mul (2 ^ 1074)))) (mul-le-mul-right (2 ^ 1074) P))))
+
+-- what is within one part of n is below m where twice n is
+under : (t g c n m : ℕ) → 0 < t → 0 < c → Within t (g * c) n → 2 * n < m → g < m
+under t g c n m P C h k =
+    let x : n ≤ n * t = le-mul-of-pos-right n P in
+    let y : g * c * t ≤ 2 * n * t = le-trans (h .0) (omega (arith, mul-assoc 2 n t)) in
+    lt-of-le-of-lt (le-trans (le-mul-of-pos-right g C) (le-of-mul-le-mul-right y P)) k
+
+small : (p : ℕ) → p ≤ 2 ^ 53 → 2 * (p * 2 ^ 1074) < overflow binary64
+small p h = lt-of-le-of-lt (mul-le-mul-left 2 (mul-le-mul-right (2 ^ 1074) h)) (lit< tt)
+
+plain-value : (x : Float) (a c : ℕ) → HasValue x false a c → T (plain x)
+plain-value nan a c h = absurd h
+plain-value (inf s) a c h = absurd h
+plain-value (fin true m e) a c h = true≢false (h .0)
+plain-value (fin false m e) a c h = tt
+
+-- one rounding is off by at most one part in 2 ^ 53
+pub quotient-close : (p q : ℕ) → Ranged p q → CloseTo (2 ^ 53) (quotient p q) p q
+quotient-close p q r = ⊎-elim none some (eq-zero-or-pos p)
+  where
+    none : p ≡ 0 → CloseTo (2 ^ 53) (quotient p q) p q
+    none e = rw (e, quotient-zero q (r .some)) (record { is-plain = tt; near = omega (arith, zero-mul q) })
+
+    some : 0 < p → CloseTo (2 ^ 53) (quotient p q) p q
+    some P =
+        let x = quotient p q in
+        let g = grid binary64 p q in
+        let w = grid-within binary64 p q (r .some) (all-digits p q P r) in
+        let v = round-val binary64 p q (under (2 ^ 53) g q (p * 2 ^ 1074) (overflow binary64) (lit≤ tt) (r .some) w (small p (r .top))) in
+        record {
+          is-plain = plain-value x g (2 ^ 1074) v;
+          near =
+              within-apart (2 ^ 53) (num x * q) (p * den x)
+              (within-value (2 ^ 53) g q p (2 ^ 1074) (num x) (den x) (pow-pos 1074) (value→cross x g (2 ^ 1074) v) w);
+        }
+
+-- demand 3 asks half as much
+pub quotient-near : (p q : ℕ) → Ranged p q → CloseTo (2 ^ 52) (quotient p q) p q
+quotient-near p q r =
+    let x = quotient-close p q r in
+    record { is-plain = x .is-plain; near = omega (arith, x .near) }
+
+-- ---- zero only where p is
+pub zero-only : (p q : ℕ) → Ranged p q → quotient p q ≡ floatZero → p ≡ 0
+zero-only p q r e = ⊎-elim (λ z. z) (λ P. absurd (none P)) (eq-zero-or-pos p)
+  where
+    none : 0 < p → ⊥
+    none P =
+        let x = apart-within (2 ^ 53) (num (quotient p q) * q) (p * den (quotient p q)) (quotient-close p q r .near) in
+        let n : num (quotient p q) ≡ 0 = ap num e in
+        let z : num (quotient p q) * q ≡ 0 = ap (λ (k : ℕ). k * q) n ∙ zero-mul q in
+        omega (arith, mul-pos P (den-pos (quotient p q)))
+
+-- ---- in order, and one float for equal fractions
+pub quotient-mono : (p q p′ q′ : ℕ) → 0 < q → 0 < q′ → p * q′ ≤ p′ * q → T (le (quotient p q) (quotient p′ q′))
+quotient-mono p q p′ q′ Q Q′ h = round-mono binary64 p q p′ q′ Q Q′ h
+
+pub quotient-same : (p q p′ q′ : ℕ) → 0 < q → 0 < q′ → p * q′ ≡ p′ * q → quotient p q ≡ quotient p′ q′
+quotient-same p q p′ q′ Q Q′ e = round-same binary64 false p q p′ q′ Q Q′ e
+
+-- ---- as IEEE 754 reads its 64 bits
+plain-not-nan : (x : Float) → T (plain x) → T (not (isNan x))
+unfolding isNan
+plain-not-nan nan h = absurd h
+plain-not-nan (inf s) h = absurd h
+plain-not-nan (fin s m e) h = tt
+
+pub quotient-not-nan : (p q : ℕ) → Ranged p q → T (not (isNan (quotient p q)))
+quotient-not-nan p q r = plain-not-nan (quotient p q) (quotient-close p q r .is-plain)
+
+pub quotient-bits : (p q : ℕ) → ofBits binary64 (toBits binary64 (quotient p q)) ≡ quotient p q
+quotient-bits p q = ofBits-toBits binary64 (quotient p q) (round-fits binary64 false p q)
+
+-- 0.0, as the code writes it
+pub zero-bits : ofBits binary64 0 ≡ floatZero
+unfolding ofBits
+zero-bits = refl

@@ -1,0 +1,25 @@
+-- Document 01, "What the promises have to settle": how far a float may be from an exact figure.
+-- A float x stands for num x / den x, its whole significand times a power of two.
+use Prim.Native.Nat.{ℕ, _+_, _-_, _*_, _≤_}
+use mathlib.Core.Bool.{Bool, false, not}
+use lib.Dec.{T}
+use lib.Ieee.{Float, nan, inf, fin}
+use lib.Ieee.Positive.{num, den}
+use Rattle.laws.specs.Signed.{apart}
+
+-- x is a number, finite and not negative
+abbrev pub plain : Float → Bool
+plain nan = false
+plain (inf s) = false
+plain (fin s m e) = not s
+
+-- x is such a number, and off p / q by at most one part in t of it, with denominators cleared
+pub record CloseTo (t : ℕ) (x : Float) (p q : ℕ) : Type 0 where
+  pub is-plain : T (plain x)
+  pub near : apart (num x * q) (p * den x) * t ≤ p * den x
+
+-- a / d is at most 1 from the root of x, by squares on either side: a / d − 1 is at most the root, and the root at most a / d + 1
+-- (`a - d` is 0 where a is below d: a / d − 1 is negative there, and below every root)
+pub record NearRoot (x a d : ℕ) : Type 0 where
+  pub not-above : (a - d) * (a - d) ≤ x * (d * d)
+  pub not-below : x * (d * d) ≤ (a + d) * (a + d)

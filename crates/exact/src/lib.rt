@@ -1,0 +1,39 @@
+// The whole square root, and one rounded division of whole numbers.
+ghost use mathlib.Core.Path.{_≡_};
+ghost use Rattle.exact.specs.Root.{root};
+ghost use Rattle.exact.specs.Quotient.{quotientOrZero};
+
+// The greatest whole number whose square is at most x: Newton's steps, down from a power of two above it.
+pub fn root_of(x: u64) -> u64
+    ensures { λ r. ⌜ r ≡ root x ⌝ }
+{
+    if x == 0 {
+        return 0;
+    }
+    let mut r = 1u64 << ((65 - u64::leading_zeros(x)) / 2);
+    let mut q = x / r;
+    while q < r {
+        r = (r + q) / 2;
+        q = x / r;
+    }
+    r
+}
+
+// 2 ^ 53: every whole number up to it becomes an f64 without loss.
+const LOSSLESS: u64 = 0x20_0000_0000_0000;
+
+// p / q, rounded once; 0.0 where q is 0, or where p or q would lose bits as an f64.
+pub fn ratio(p: u64, q: u64) -> f64
+    ensures { λ r. ⌜ r ≡ quotientOrZero p q ⌝ }
+{
+    if q == 0 {
+        return 0.0;
+    }
+    if LOSSLESS < q {
+        return 0.0;
+    }
+    if LOSSLESS < p {
+        return 0.0;
+    }
+    (p as f64) / (q as f64)
+}
