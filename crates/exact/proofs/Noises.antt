@@ -1,4 +1,5 @@
--- Demand 3's bounds, over P and n. The noise is right because r / 64n is at most 1/64n below the root of 2048P over 64n, and the one rounding moves it by far less than another 1/64n.
+-- Demand 3's bounds, over P and n. The noise is near because r is at most 1 below the root of 2048P, and one rounding moves r / 64n
+-- by far less than another 1 / 64n.
 use Prim.Native.Nat.{ℕ, _+_, _-_, _*_, _^_, _≤_, _<_}
 use mathlib.Core.Path.{_≡_, ap, _∙_}
 use native.Mathlib.Nat.{le-of-lt, mul-comm, mul-assoc, mul-mul-mul-comm, mul-le-mul, mul-le-mul-right, mul-pos, add-mul}
