@@ -1,11 +1,12 @@
 -- The laws of sums.
-use Prim.Native.Nat.{ℕ, zero, suc, _+_, _-_, _*_, _<_, _≤_, zero-le}
+use Prim.Native.Nat.{ℕ, zero, suc, _+_, _-_, _*_, _<_, _≤_, zero-le, min}
 use mathlib.Core.Logic.{⊎-elim}
 use mathlib.Core.Path.{_≡_, refl, sym, ap, ap₂, _∙_}
 use native.Mathlib.Nat.{le-refl, le-trans, le-of-eq, sub-self, add-zero, add-suc, suc-mul, add-le-add, mul-add, mul-zero, le-of-suc-le-suc, eq-or-lt-of-le}
 use native.Mathlib.Numerals.{add-one}
 use native.Mathlib.Omega.{arith}
 use Rattle.laws.specs.Sum.{sumTo, sumIn, sumBox}
+use Rattle.laws.proofs.Cases.{lt-or-ge}
 
 -- where a loop that adds begins
 pub sum-none : (f : ℕ → ℕ) → 0 ≡ sumTo 0 f
@@ -90,6 +91,17 @@ in-more a i f h =
     let s = sum-more i f in
     omega arith
 
+-- a range that begins past its end is empty, wherever it begins
+pub in-cut : (a b : ℕ) (f : ℕ → ℕ) → sumIn (min a b) b f ≡ sumIn a b f
+unfolding sumIn sumTo
+in-cut a b f =
+    ⊎-elim
+    (λ l. let e : min a b ≡ a = omega arith in rw e)
+    (λ g. let e : b - min a b ≡ 0 = omega arith in
+    let n : b - a ≡ 0 = omega arith in
+    rw (e, n))
+    (lt-or-ge a b)
+
 module _ (a b : ℕ) where
   pub in-ext : (f g : ℕ → ℕ) → ((k : ℕ) → a ≤ k → k < b → f k ≡ g k) → sumIn a b f ≡ sumIn a b g
   unfolding sumIn
@@ -116,3 +128,19 @@ module _ (a b l r : ℕ) (f g : ℕ → ℕ → ℕ) where
   box-scaled B h =
       in-scaled a b B (λ (u : ℕ). sumIn l r (λ (v : ℕ). f u v)) (λ (u : ℕ). sumIn l r (λ (v : ℕ). g u v))
       (λ u p q. in-scaled l r B (λ (v : ℕ). f u v) (λ (v : ℕ). g u v) (λ v s t. h u v p q s t))
+
+-- where a loop that adds row by row begins, and a turn of it
+pub box-none : (a l r : ℕ) (g : ℕ → ℕ → ℕ) → 0 ≡ sumBox a a l r g
+unfolding sumBox
+box-none a l r g = in-none a (λ (u : ℕ). sumIn l r (λ (v : ℕ). g u v))
+
+pub box-more : (a i l r : ℕ) (g : ℕ → ℕ → ℕ) → a ≤ i → sumBox a i l r g + sumIn l r (λ (v : ℕ). g i v) ≡ sumBox a (i + 1) l r g
+unfolding sumBox
+box-more a i l r g h = in-more a i (λ (u : ℕ). sumIn l r (λ (v : ℕ). g u v)) h
+
+-- a box that begins past its end is empty, wherever it begins
+pub box-cut : (a b l r : ℕ) (g : ℕ → ℕ → ℕ) → sumBox (min a b) b (min l r) r g ≡ sumBox a b l r g
+unfolding sumBox
+box-cut a b l r g =
+    in-cut a b (λ (u : ℕ). sumIn (min l r) r (λ (v : ℕ). g u v))
+    ∙ in-ext a b (λ (u : ℕ). sumIn (min l r) r (λ (v : ℕ). g u v)) (λ (u : ℕ). sumIn l r (λ (v : ℕ). g u v)) (λ u p q. in-cut l r (λ (v : ℕ). g u v))

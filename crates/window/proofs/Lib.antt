@@ -4,3 +4,4 @@ pub mod Walks
 pub mod Views
 pub mod Verdicts
 pub mod Chains
+pub mod Planes

@@ -1,12 +1,14 @@
-// What every call on a window shares: its sides and full scale, what is seen through a mask, and refusals.
+// What every call on a window shares: its sides and full scale, what is seen through a mask, refusals, and the four planes.
 ghost use mathlib.Core.Path.{_≡_};
-ghost use Prim.Native.Nat.{_*_, _≤_, min};
+ghost use Prim.Native.Nat.{ℕ, _+_, _*_, _/_, _≤_, _<_, min};
 ghost use lib.ListN.{length};
 ghost use Rattle.laws.specs.First.{firstTo};
+ghost use Rattle.laws.specs.Sum.{sumIn, sumBox};
 ghost use Rattle.window.specs.Shape.{badSide, badSides, badScale, sitesOf};
-ghost use Rattle.window.specs.View.{badCode, seenAt, seen, above};
+ghost use Rattle.window.specs.View.{badCode, seenAt, seen, one, above};
 ghost use Rattle.window.specs.Verdict.{_⨟_, refuseIf};
 ghost use Rattle.window.specs.Judge.{shapeOf, codesOf, samplesOf, walked};
+ghost use Rattle.window.specs.Plane.{siteAt, boxSums};
 
 // A refusal's number and place, as document 01 tables them.
 pub struct Refusal {
@@ -162,4 +164,123 @@ pub fn samples(width: usize, height: usize, full_scale: u64, mask: &[u8], frame:
     }
     let place = first_over(width, height, full_scale, mask, frame);
     refuse_if(6, place, place < n)
+}
+
+// A box of a plane's coordinates: rows from top to before bottom, columns from left to before right.
+pub struct PlaneBox {
+    pub top: usize,
+    pub bottom: usize,
+    pub left: usize,
+    pub right: usize,
+}
+
+// How many sites are surveyed, and the sum of their samples.
+pub struct Sums {
+    pub count: u64,
+    pub total: u64,
+}
+
+fn one_at(code: u8) -> u32
+    ensures { λ r. ⌜ (r ≡ seenAt code 1) × (r ≤ 1) ⌝ }
+{
+    if code == 0 { 1 } else { 0 }
+}
+
+fn sample_at(code: u8, sample: u16) -> u32
+    ensures { λ r. ⌜ (r ≡ seenAt code sample) × (r ≤ 65535) ⌝ }
+{
+    seen_at(code, sample) as u32
+}
+
+// The sites at start + 2 v, from v = left to before right: a row of a plane, or part of it.
+fn row_sums(start: usize, left: usize, right: usize, mask: &[u8], frame: &[u16]) -> Sums
+    requires { ⌜ (left ≤ right) × (right ≤ 64) × (start + 2 * right ≤ length (now mask) + 1) × (length (now frame) ≡ length (now mask)) ⌝ }
+    ensures { λ r. ⌜ (r .count ≡ sumIn left right (λ (v : ℕ). one (now (mask .entry)) (start + 2 * v))) × (r .count ≤ 64) ⌝ }
+    ensures { λ r. ⌜ (r .total ≡ sumIn left right (λ (v : ℕ). seen (now (mask .entry)) (now (frame .entry)) (start + 2 * v))) × (r .total ≤ 4194240) ⌝ }
+{
+    let mut count: u32 = 0;
+    let mut total: u32 = 0;
+    let mut v = left;
+    while v < right {
+        let at = start + 2 * v;
+        let code = mask[at];
+        count += one_at(code);
+        total += sample_at(code, frame[at]);
+        v += 1;
+    }
+    Sums {
+        count: count as u64,
+        total: total as u64,
+    }
+}
+
+fn least(a: usize, b: usize) -> usize
+    ensures { λ r. ⌜ r ≡ min a b ⌝ }
+{
+    if a < b { a } else { b }
+}
+
+// A box that lies inside the plane, row by row.
+fn inner_sums(
+    width: usize,
+    height: usize,
+    plane: usize,
+    top: usize,
+    bottom: usize,
+    left: usize,
+    right: usize,
+    mask: &[u8],
+    frame: &[u16],
+) -> Sums
+    requires { ⌜ (height ≤ 128) × (width ≤ 128) × (top ≤ bottom) × (bottom ≤ height / 2) × (left ≤ right) × (right ≤ width / 2) ⌝ }
+    requires { ⌜ (length (now mask) ≡ height * width) × (length (now frame) ≡ height * width) ⌝ }
+    ensures { λ r. ⌜ (r .count ≡ sumBox top bottom left right (λ (u v : ℕ). one (now (mask .entry)) (siteAt width plane u v))) × (r .count ≤ 4096) ⌝ }
+    ensures { λ r. ⌜ r .total ≡ sumBox top bottom left right (λ (u v : ℕ). seen (now (mask .entry)) (now (frame .entry)) (siteAt width plane u v)) ⌝ }
+{
+    let row = plane / 2 % 2;
+    let column = plane % 2;
+    let mut count = 0;
+    let mut total = 0;
+    let mut u = top;
+    while u < bottom {
+        let sums = row_sums((2 * u + row) * width + column, left, right, mask, frame);
+        count += sums.count;
+        total += sums.total;
+        u += 1;
+    }
+    Sums { count, total }
+}
+
+// What is seen in a box of a plane, which is cut off at the plane's edges; nothing in buffers that have not the window's sites.
+pub fn box_sums(
+    width: usize,
+    height: usize,
+    plane: usize,
+    within: PlaneBox,
+    mask: &[u8],
+    frame: &[u16],
+) -> Sums
+    ensures { λ r. ⌜ r ≡ boxSums width height plane within (now (mask .entry)) (now (frame .entry)) ⌝ }
+    ensures { λ r. ⌜ (r .count ≤ 4096) × (r .total ≤ 65535 * r .count) ⌝ }
+{
+    let walked = least(
+        walkable(width, height, mask.len()),
+        walkable(width, height, frame.len()),
+    );
+    if walked == 0 {
+        return Sums { count: 0, total: 0 };
+    }
+    let bottom = least(within.bottom, height / 2);
+    let right = least(within.right, width / 2);
+    inner_sums(
+        width,
+        height,
+        plane,
+        least(within.top, bottom),
+        bottom,
+        least(within.left, right),
+        right,
+        mask,
+        frame,
+    )
 }

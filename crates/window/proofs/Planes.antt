@@ -1,0 +1,119 @@
+-- The laws of planes, and of what is seen in a box of a plane's coordinates.
+use Prim.Native.Nat.{ℕ, suc, _+_, _*_, _/_, _%_, _<_, _≤_, min, zero-le}
+use mathlib.Core.Bool.{Bool, true, false, cond}
+use mathlib.Core.List.{List}
+use mathlib.Core.Path.{_≡_, sym, ap₂, _∙_}
+use native.Mathlib.Nat.{suc-mul, mul-le-mul, mul-le-mul-right, div-add-mod'}
+use native.Mathlib.Omega.{arith}
+use lib.Arith.{digits-div, digits-mod}
+use lib.ListN.{length, getD}
+use borrow.Author.Tests.{eq-eqb, ne-eqb}
+use Rattle.laws.specs.Sum.{sumBox}
+use Rattle.laws.proofs.Sums.{box-ext, box-scaled, box-cut}
+use Rattle.window.specs.Shape.{sitesOf}
+use Rattle.window.specs.View.{surveyed, seenAt, seen, one}
+use Rattle.window.specs.Judge.{walked}
+use Rattle.window.specs.Plane.{rowParity, columnParity, planeOf, planeRow, planeColumn, siteAt, boxSum, sums, boxSums}
+use Rattle.window.specs.declared.PlaneBox.{PlaneBox}
+use Rattle.window.specs.declared.Sums.{Sums}
+use Rattle.window.proofs.Sides.{Sides}
+use Rattle.window.proofs.Walks.{walked-whole}
+
+module _ (w h plane u : ℕ) (low : u < h / 2) where
+  -- a row of a plane lies inside the window
+  pub row-in : (right : ℕ) → right ≤ w / 2 → (2 * u + rowParity plane) * w + columnParity plane + 2 * right ≤ h * w + 1
+  row-in right in-right =
+      let below : suc (2 * u + rowParity plane) ≤ h = omega arith in
+      omega (arith, mul-le-mul-right w below, suc-mul (2 * u + rowParity plane) w)
+
+  -- and so does each of its sites
+  pub site-in : (v : ℕ) → v < w / 2 → siteAt w plane u v < h * w
+  site-in v in-row = omega (arith, row-in (v + 1) (omega arith))
+
+-- a site of a plane is in that plane, in its row and in its column
+module _ (w plane u v : ℕ) (in-row : v < w / 2) where
+  across : siteAt w plane u v ≡ (2 * u + rowParity plane) * w + (columnParity plane + 2 * v)
+  across = omega arith
+
+  pub site-row : siteAt w plane u v / w ≡ 2 * u + rowParity plane
+  site-row = rw across (digits-div (2 * u + rowParity plane) (omega arith))
+
+  pub site-column : siteAt w plane u v % w ≡ columnParity plane + 2 * v
+  site-column = rw across (digits-mod (2 * u + rowParity plane) (omega arith))
+
+  pub plane-row : planeRow w (siteAt w plane u v) ≡ u
+  plane-row = omega (arith, site-row)
+
+  pub plane-column : planeColumn w (siteAt w plane u v) ≡ v
+  plane-column = omega (arith, site-column)
+
+  pub plane-of : plane < 4 → planeOf w (siteAt w plane u v) ≡ plane
+  plane-of few = omega (arith, site-row, site-column)
+
+-- every site is the one at its own row and column of its own plane
+pub site-at : (w i : ℕ) → siteAt w (planeOf w i) (planeRow w i) (planeColumn w i) ≡ i
+site-at w i = rw rows (omega (arith, div-add-mod' i w))
+  where
+    rows : 2 * (i / w / 2) + (2 * (i / w % 2) + i % w % 2) / 2 % 2 ≡ i / w
+    rows = omega arith
+
+module _ (w h plane : ℕ) (within : PlaneBox) where
+  -- sums of views that agree on the plane's sites
+  pub box-same : (f g : ℕ → ℕ) → ((i : ℕ) → i < h * w → f i ≡ g i) → boxSum w h plane within f ≡ boxSum w h plane within g
+  unfolding boxSum
+  box-same f g same = box-ext _ _ _ _ _ _ (λ u v p q s t. same (siteAt w plane u v) (site-in w h plane u (omega arith) v (omega arith)))
+
+  -- a view that is at every site at most B times another
+  pub box-at-most : (B : ℕ) (f g : ℕ → ℕ) → ((i : ℕ) → g i ≤ B * f i) → boxSum w h plane within g ≤ B * boxSum w h plane within f
+  unfolding boxSum
+  box-at-most B f g below = box-scaled _ _ _ _ _ _ B (λ u v p q s t. below (siteAt w plane u v))
+
+  -- the part of a box that lies inside the plane
+  pub box-inner : (view : ℕ → ℕ) (top bottom left right : ℕ)
+      → bottom ≡ min (within .bottom) (h / 2) → right ≡ min (within .right) (w / 2) → top ≡ min (within .top) bottom → left ≡ min (within .left) right
+      → sumBox top bottom left right (λ (u v : ℕ). view (siteAt w plane u v)) ≡ boxSum w h plane within view
+  unfolding boxSum
+  box-inner view top bottom left right b r t l = rw (t, l, b, r) (box-cut _ _ _ _ _)
+
+-- samples of at most B: what is seen of them is at most B for each site counted
+pub seen-scaled : (mask frame : List ℕ) (B : ℕ) → ((i : ℕ) → getD frame i 0 ≤ B) → (i : ℕ) → seen mask frame i ≤ B * one mask i
+unfolding seen one seenAt
+seen-scaled mask frame B low i = by (surveyed (getD mask i 0))
+  where
+    by : (b : Bool) → cond b (getD frame i 0) 0 ≤ B * cond b 1 0
+    by true = omega (arith, low i)
+    by false = zero-le
+
+module _ (w h plane : ℕ) (within : PlaneBox) (mask frame : List ℕ) where
+  -- buffers that have the window's sites show what is in the box
+  pub sums-whole : (min (walked w h (length mask)) (walked w h (length frame)) ≡ 0 → ⊥)
+      → boxSums w h plane within mask frame ≡ sums (boxSum w h plane within (one mask)) (boxSum w h plane within (seen mask frame))
+  unfolding boxSums
+  sums-whole some = rw (ne-eqb (min (walked w h (length mask)) (walked w h (length frame))) 0 some)
+
+  -- as those of an accepted call do
+  pub sums-accepted : Sides w h → length mask ≡ sitesOf w h → length frame ≡ sitesOf w h
+      → boxSums w h plane within mask frame ≡ sums (boxSum w h plane within (one mask)) (boxSum w h plane within (seen mask frame))
+  sums-accepted legal m f =
+      let n = walked-whole w h (length mask) m in
+      let k = walked-whole w h (length frame) f in
+      let some = mul-le-mul (legal .high .low) (legal .wide .low) in
+      sums-whole (λ e. omega (arith, n, k, legal .sites, some))
+
+  -- any others show nothing
+  pub sums-none : min (walked w h (length mask)) (walked w h (length frame)) ≡ 0 → boxSums w h plane within mask frame ≡ sums 0 0
+  unfolding boxSums
+  sums-none e = rw (eq-eqb (min (walked w h (length mask)) (walked w h (length frame))) 0 e)
+
+  -- so sums over the part of a box that lies inside the plane are all that is seen of it
+  pub sums-told : (r : Sums) (top bottom left right : ℕ)
+      → bottom ≡ min (within .bottom) (h / 2) → right ≡ min (within .right) (w / 2) → top ≡ min (within .top) bottom → left ≡ min (within .left) right
+      → r .count ≡ sumBox top bottom left right (λ (u v : ℕ). one mask (siteAt w plane u v))
+      → r .total ≡ sumBox top bottom left right (λ (u v : ℕ). seen mask frame (siteAt w plane u v))
+      → (min (walked w h (length mask)) (walked w h (length frame)) ≡ 0 → ⊥) → ((i : ℕ) → getD frame i 0 ≤ 65535)
+      → (r ≡ boxSums w h plane within mask frame) × (r .total ≤ 65535 * r .count)
+  sums-told r top bottom left right b e t l c s some small =
+      let counted = c ∙ box-inner w h plane within (one mask) top bottom left right b e t l in
+      let added = s ∙ box-inner w h plane within (seen mask frame) top bottom left right b e t l in
+      let low = box-at-most w h plane within 65535 (one mask) (seen mask frame) (seen-scaled mask frame 65535 small) in
+      (ap₂ sums counted added ∙ sym (sums-whole some), omega arith)
