@@ -1,14 +1,15 @@
 -- The laws of `a ⊖ b`: what is to be shown of a signed number is arithmetic of the two naturals it is the difference of.
-use Prim.Native.Nat.{ℕ, suc, _+_, _-_, _*_, _≤_, _<_}
+use Prim.Native.Nat.{ℕ, zero, suc, _+_, _-_, _*_, _≤_, _<_}
 use mathlib.Core.Logic.{⊎-elim}
-use mathlib.Core.Path.{_≡_, sym, ap, _∙_}
+use mathlib.Core.Path.{_≡_, refl, sym, ap, ap₂, _∙_}
 use native.Mathlib.Nat.{add-zero, add-comm, add-mul}
 use native.Mathlib.Omega.{arith}
 use lib.Dec.{ltb}
 use lib.IntN.{ℤ, pos, negsuc, negℤ, _+ℤ_, _-ℤ_, _*ℤ_, +ℤ-assoc, +ℤ-comm, +ℤ-idl, +ℤ-idr, +ℤ-invr, negℤ-+ℤ, negℤ-negℤ}
 use lib.Signed.{ltZ}
 use borrow.Author.Tests.{lt-ltb, le-ltb, ltb-false}
-use Rattle.laws.specs.Signed.{_⊖_, apart}
+use Rattle.laws.specs.Sum.{sumTo}
+use Rattle.laws.specs.Signed.{_⊖_, apart, sumToℤ}
 use Rattle.laws.proofs.Cases.{lt-or-ge, ltb-iff}
 
 swapped : (x y z w : ℤ) → (x +ℤ y) +ℤ (z +ℤ w) ≡ (x +ℤ z) +ℤ (y +ℤ w)
@@ -125,3 +126,16 @@ pub ⊖-scale : (a b n : ℕ) → (a ⊖ b) *ℤ pos n ≡ a * n ⊖ b * n
         (ap negℤ (sym (⊖-zero ((b - a) * n)))
         ∙ ⊖-neg ((b - a) * n) 0
         ∙ ⊖-eq 0 ((b - a) * n) (a * n) (b * n) (omega (arith, split b a n (omega arith))))
+
+-- a sum of differences is the difference of the sums
+pub ⊖-sum : (n : ℕ) (a b : ℕ → ℕ) → sumToℤ n (λ (i : ℕ). a i ⊖ b i) ≡ sumTo n a ⊖ sumTo n b
+unfolding sumToℤ sumTo
+⊖-sum zero a b = sym (⊖-zero 0)
+⊖-sum (suc n) a b = ap (λ (t : ℤ). t +ℤ (a n ⊖ b n)) (⊖-sum n a b) ∙ ⊖-add (sumTo n a) (sumTo n b) (a n) (b n)
+
+-- and a sum of their squares is a natural number
+pub ⊖-squares : (n : ℕ) (a b : ℕ → ℕ)
+    → sumToℤ n (λ (i : ℕ). (a i ⊖ b i) *ℤ (a i ⊖ b i)) ≡ pos (sumTo n (λ (i : ℕ). apart (a i) (b i) * apart (a i) (b i)))
+unfolding sumToℤ sumTo
+⊖-squares zero a b = refl
+⊖-squares (suc n) a b = ap₂ (λ (x y : ℤ). x +ℤ y) (⊖-squares n a b) (⊖-square (a n) (b n))

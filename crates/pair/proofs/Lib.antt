@@ -1,0 +1,5 @@
+pub mod Walk
+pub mod Spreads
+pub mod Frames
+pub mod Measures
+pub mod Calls

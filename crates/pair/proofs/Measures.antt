@@ -1,0 +1,98 @@
+-- From the refusals to n and P: the tests that follow the walk are the rest of the one chain, and what passes them is measured.
+use Prim.Native.Nat.{ℕ, _*_, _^_, _≤_, _<_}
+use mathlib.Core.List.{List}
+use mathlib.Core.Path.{_≡_, refl, sym, ap, _∙_}
+use native.Mathlib.Nat.{le-trans}
+use native.Mathlib.Omega.{arith}
+use lib.Dec.{leb, ltb}
+use lib.ListN.{length}
+use borrow.Author.Tests.{ltb-false, leb-false}
+use Rattle.laws.specs.Sum.{sumTo}
+use Rattle.laws.proofs.Sums.{sum-le}
+use Rattle.exact.proofs.Noises.{Measured}
+use Rattle.window.specs.Shape.{sitesOf}
+use Rattle.window.specs.View.{one, seen}
+use Rattle.window.specs.Verdict.{_⨟_, refuseIf}
+use Rattle.window.specs.declared.Refusal.{Refusal}
+use Rattle.window.specs.declared.Verdict.{Verdict}
+use Rattle.window.specs.declared.Verdict.the-variants as verdict
+use Rattle.window.proofs.Sides.{sites-few}
+use Rattle.window.proofs.Verdicts.{then-clear, unless}
+use Rattle.window.proofs.Views.{one-le}
+use Rattle.pair.specs.Pair.{spreadOf, pairSpread, framesOf, pairVerdict, measurement}
+use Rattle.pair.specs.declared.Spread.{Spread}
+use Rattle.pair.specs.declared.Measurement.the-variants as taken
+use Rattle.pair.proofs.Frames.{Readable, readable}
+
+-- 7 and 14, of n and P
+abbrev pub last : Spread → Verdict
+last s = refuseIf 7 0 (ltb (s .n) 2) ⨟ refuseIf 14 0 (leb (2 ^ 53) (s .p))
+
+-- there are no more surveyed sites than sites
+pub few-surveyed : (w h : ℕ) (mask : List ℕ) → sumTo (sitesOf w h) (one mask) ≤ 16384
+few-surveyed w h mask =
+    le-trans (sum-le (sitesOf w h) 1 (one mask) (λ k l. one-le mask k)) (omega (arith, sites-few w h))
+
+module _ (w h full : ℕ) (mask first second : List ℕ) where
+  -- what the walk asks of the lengths
+  pub lent : framesOf w h full mask first second ≡ verdict.Clear
+      → (length mask ≤ 16384) × (length first ≡ length mask) × (length second ≡ length mask)
+  lent e =
+      let r = readable w h full mask first second e in
+      (omega (arith, sites-few w h, r .of-mask), r .of-first ∙ sym (r .of-mask), r .of-second ∙ sym (r .of-mask))
+
+  pub frames-refused : (r : Refusal) → framesOf w h full mask first second ≡ verdict.Refused r
+      → taken.Refused r ≡ measurement (pairVerdict w h full mask first second) (pairSpread w h mask first second)
+  unfolding pairVerdict _⨟_
+  frames-refused r e = rw e
+
+  -- past 1 to 6, s being n and P
+  module _ (s : Spread) (clear : framesOf w h full mask first second ≡ verdict.Clear)
+    (e : s ≡ spreadOf (length mask) (one mask) (seen mask first) (seen mask second)) where
+    same-spread : s ≡ pairSpread w h mask first second
+    same-spread = e ∙ ap (λ (n : ℕ). spreadOf n (one mask) (seen mask first) (seen mask second)) (readable w h full mask first second clear .of-mask)
+
+    rest : last s ≡ pairVerdict w h full mask first second
+    unfolding pairVerdict _⨟_
+    rest = rw clear (ap last same-spread)
+
+    pub last-refused : (r : Refusal) → last s ≡ verdict.Refused r
+        → taken.Refused r ≡ measurement (pairVerdict w h full mask first second) (pairSpread w h mask first second)
+    last-refused r f = rw (sym rest ∙ f)
+
+    pub last-clear : last s ≡ verdict.Clear
+        → taken.Taken s ≡ measurement (pairVerdict w h full mask first second) (pairSpread w h mask first second)
+    last-clear f = rw (sym rest ∙ f, ← same-spread)
+
+-- what was measured, and what was refused
+pub was-taken : (v : Verdict) (s m : Spread) → measurement v s ≡ taken.Taken m → (v ≡ verdict.Clear) × (m ≡ s)
+was-taken verdict.Clear s m e = (refl, cc)
+was-taken (verdict.Refused r) s m e = let z : _≡_ {A = ℕ} 0 1 = cc in absurd (omega arith)
+
+pub was-refused : (v : Verdict) (s : Spread) (r : Refusal) → measurement v s ≡ taken.Refused r → v ≡ verdict.Refused r
+was-refused verdict.Clear s r e = let z : _≡_ {A = ℕ} 0 1 = cc in absurd (omega arith)
+was-refused (verdict.Refused q) s r e = cc
+
+-- what an accepted pair is
+pub record Accepted (w h full : ℕ) (mask first second : List ℕ) : Type 0 where
+  pub frames : Readable w h full mask first second
+  pub two : 2 ≤ pairSpread w h mask first second .n
+  pub few : pairSpread w h mask first second .n ≤ 16384
+  pub exact : pairSpread w h mask first second .p < 2 ^ 53
+
+module _ {w h full : ℕ} {mask first second : List ℕ} where
+  pub accepted : pairVerdict w h full mask first second ≡ verdict.Clear → Accepted w h full mask first second
+  unfolding pairVerdict spreadOf
+  accepted e =
+      let frames = then-clear _ _ e in
+      let late = then-clear _ _ (frames .1) in
+      record {
+        frames = readable w h full mask first second (frames .0);
+        two = ltb-false _ 2 (unless 7 0 _ (late .0));
+        few = few-surveyed w h mask;
+        exact = leb-false (2 ^ 53) _ (unless 14 0 _ (late .1));
+      }
+
+  -- so both floats are near
+  pub measured : Accepted w h full mask first second → Measured (pairSpread w h mask first second .p) (pairSpread w h mask first second .n)
+  measured a = record { exact = a .exact; some = omega (arith, a .two); few = omega (arith, a .few) }

@@ -1,0 +1,78 @@
+-- Document 01, "Pair noise": n, P, Q and both figures of two frames, and the refusals of both calls.
+use Prim.Native.Nat.{ℕ, _*_, _^_}
+use mathlib.Core.List.{List}
+use lib.Dec.{leb, ltb}
+use lib.Ieee.{Float}
+use lib.IntN.{ℤ, pos, natAbs, _-ℤ_, _*ℤ_}
+use lib.ListN.{length}
+use Rattle.laws.specs.Sum.{sumTo}
+use Rattle.laws.specs.Signed.{_⊖_, sumToℤ}
+use Rattle.exact.specs.Root.{root}
+use Rattle.exact.specs.Quotient.{quotient}
+use Rattle.window.specs.Shape.{sitesOf}
+use Rattle.window.specs.View.{one, seen}
+use Rattle.window.specs.Verdict.{_⨟_, refuseIf}
+use Rattle.window.specs.Judge.{shapeOf, otherThan, codesOf, samplesOf}
+use Rattle.window.specs.declared.Verdict.{Verdict}
+use Rattle.window.specs.declared.Verdict.the-variants as verdict
+use Rattle.pair.specs.declared.Spread.{Spread}
+use Rattle.pair.specs.declared.Measurement.{Measurement}
+use Rattle.pair.specs.declared.Measurement.the-variants as taken
+
+-- d: second frame minus first at a surveyed site; at any other, both are seen as 0
+abbrev pub difference : (ℕ → ℕ) → (ℕ → ℕ) → ℕ → ℤ
+difference first second i = second i ⊖ first i
+
+-- P = n × (sum of d²) − (sum of d)², over so many sites
+unfoldable pub numerator : ℕ → ℕ → (ℕ → ℤ) → ℤ
+numerator sites n d = pos n *ℤ sumToℤ sites (λ (i : ℕ). d i *ℤ d i) -ℤ sumToℤ sites d *ℤ sumToℤ sites d
+
+-- n, the count of surveyed sites, and P as a whole number: it is never below 0 (the law `whole`), so its size is P itself
+unfoldable pub spreadOf : ℕ → (ℕ → ℕ) → (ℕ → ℕ) → (ℕ → ℕ) → Spread
+spreadOf sites one first second =
+    record { n = sumTo sites one; p = natAbs (numerator sites (sumTo sites one) (difference first second)) }
+
+abbrev pub pairSpread : ℕ → ℕ → List ℕ → List ℕ → List ℕ → Spread
+pairSpread w h mask first second = spreadOf (sitesOf w h) (one mask) (seen mask first) (seen mask second)
+
+-- Q = 2 × n²; the variance P/Q; r, the greatest whole number with r² ≤ 2048 × P; the noise r / (64 × n)
+pub record Figures : Type 0 where
+  pub n : ℕ
+  pub p : ℕ
+  pub q : ℕ
+  pub variance : Float
+  pub r : ℕ
+  pub noise : Float
+
+abbrev pub figuresOf : Spread → Figures
+figuresOf s = record {
+  n = s .n;
+  p = s .p;
+  q = 2 * (s .n * s .n);
+  variance = quotient (s .p) (2 * (s .n * s .n));
+  r = root (2048 * s .p);
+  noise = quotient (root (2048 * s .p)) (64 * s .n);
+}
+
+-- the refusals of both calls in their order: those of the window and of what is lent, the first frame's sites before the second's
+unfoldable pub framesOf : ℕ → ℕ → ℕ → List ℕ → List ℕ → List ℕ → Verdict
+framesOf w h full mask first second =
+    shapeOf w h full
+    ⨟ refuseIf 4 0 (otherThan (sitesOf w h) (length mask))
+    ⨟ refuseIf 4 0 (otherThan (sitesOf w h) (length first))
+    ⨟ refuseIf 4 0 (otherThan (sitesOf w h) (length second))
+    ⨟ codesOf (sitesOf w h) mask
+    ⨟ samplesOf (sitesOf w h) full (seen mask first)
+    ⨟ samplesOf (sitesOf w h) full (seen mask second)
+
+-- then fewer than 2 surveyed sites, and P of 2^53 or more
+unfoldable pub pairVerdict : ℕ → ℕ → ℕ → List ℕ → List ℕ → List ℕ → Verdict
+pairVerdict w h full mask first second =
+    framesOf w h full mask first second
+    ⨟ refuseIf 7 0 (ltb (pairSpread w h mask first second .n) 2)
+    ⨟ refuseIf 14 0 (leb (2 ^ 53) (pairSpread w h mask first second .p))
+
+-- n and P, or the refusal
+abbrev pub measurement : Verdict → Spread → Measurement
+measurement verdict.Clear s = taken.Taken s
+measurement (verdict.Refused r) s = taken.Refused r

@@ -1,0 +1,214 @@
+// The noise of a pair of frames: document 01, "Pair noise".
+ghost use mathlib.Core.Path.{_≡_};
+ghost use Prim.Native.Nat.{_*_, _≤_};
+ghost use lib.ListN.{length};
+ghost use Rattle.laws.specs.Signed.{apart};
+ghost use Rattle.window.specs.View.{one, seen};
+ghost use Rattle.pair.specs.Sums.{totalsOf};
+ghost use Rattle.pair.specs.Pair.{spreadOf, pairSpread, framesOf, pairVerdict, measurement};
+ghost use Rattle.pair.specs.Answers.{varianceAnswer, variancePaperOf, variancePaper, noiseAnswer, noisePaperOf, noisePaper};
+use window::Refusal;
+use window::Verdict;
+
+// P, Q and P/Q.
+pub enum Variance {
+    Figures { p: u64, q: u64, variance: f64 },
+    Refused(Refusal),
+}
+
+// The noise in grey levels, with the r and the n that it is r / (64 × n) of.
+pub enum Noise {
+    Figure { noise: f64, r: u64, n: u64 },
+    Refused(Refusal),
+}
+
+// Sums over the surveyed sites: how many, the samples of each frame, and the squares of the differences.
+struct Totals {
+    n: u64,
+    first: u64,
+    second: u64,
+    squares: u64,
+}
+
+// n and P.
+struct Spread {
+    n: u64,
+    p: u64,
+}
+
+enum Measurement {
+    Taken(Spread),
+    Refused(Refusal),
+}
+
+// Refusals 1 to 6.
+fn judge(
+    width: usize,
+    height: usize,
+    full_scale: u64,
+    mask: &[u8],
+    first: &[u16],
+    second: &[u16],
+) -> Verdict
+    ensures { λ r. ⌜ r ≡ framesOf width height «full_scale» (now (mask .entry)) (now (first .entry)) (now (second .entry)) ⌝ }
+{
+    let n = window::sites(width, height);
+    let shape = window::shape(width, height, full_scale);
+    let of_mask = window::refuse_if(4, 0, mask.len() != n);
+    let of_first = window::refuse_if(4, 0, first.len() != n);
+    let of_second = window::refuse_if(4, 0, second.len() != n);
+    let codes = window::codes(width, height, mask);
+    let over_first = window::samples(width, height, full_scale, mask, first);
+    let over_second = window::samples(width, height, full_scale, mask, second);
+    let over = window::then(over_first, over_second);
+    let sites = window::then(codes, over);
+    let lengths = window::then(of_mask, window::then(of_first, window::then(of_second, sites)));
+    window::then(shape, lengths)
+}
+
+fn wide(count: u16) -> u32
+    ensures { λ r. ⌜ r ≡ count ⌝ }
+{
+    count as u32
+}
+
+// |second − first| of two samples.
+fn difference(first: u16, second: u16) -> u16
+    ensures { λ r. ⌜ r ≡ apart second first ⌝ }
+{
+    if first < second {
+        second - first
+    } else {
+        first - second
+    }
+}
+
+fn squared(first: u16, second: u16) -> u64
+    ensures { λ r. ⌜ (r ≡ apart second first * apart second first) × (r ≤ 4294836225) ⌝ }
+{
+    let d = wide(difference(first, second));
+    (d * d) as u64
+}
+
+// |second − first| of the samples' sums.
+fn drift(first: u64, second: u64) -> u64
+    ensures { λ r. ⌜ r ≡ apart second first ⌝ }
+{
+    if first < second {
+        second - first
+    } else {
+        first - second
+    }
+}
+
+// The one walk. An unsurveyed site adds 0 to every sum.
+fn sums(mask: &[u8], first: &[u16], second: &[u16]) -> Totals
+    requires { ⌜ (length (now mask) ≤ 16384) × (length (now first) ≡ length (now mask)) × (length (now second) ≡ length (now mask)) ⌝ }
+    ensures { λ r. ⌜ r ≡ totalsOf (length (now (mask .entry))) (one (now (mask .entry))) (seen (now (mask .entry)) (now (first .entry))) (seen (now (mask .entry)) (now (second .entry))) ⌝ }
+    ensures { λ r. ⌜ (r .n ≤ 16384) × (r .first ≤ 1073725440) × (r .second ≤ 1073725440) × (r .squares ≤ 70366596710400) ⌝ }
+{
+    let mut n: u32 = 0;
+    let mut of_first: u32 = 0;
+    let mut of_second: u32 = 0;
+    let mut squares: u64 = 0;
+    for i in 0..mask.len() {
+        let code = mask[i];
+        let x = window::seen_at(code, first[i]);
+        let y = window::seen_at(code, second[i]);
+        n += wide(window::seen_at(code, 1));
+        of_first += wide(x);
+        of_second += wide(y);
+        squares += squared(x, y);
+    }
+    Totals {
+        n: n as u64,
+        first: of_first as u64,
+        second: of_second as u64,
+        squares,
+    }
+}
+
+// n and P, whatever the samples.
+fn spread_of(mask: &[u8], first: &[u16], second: &[u16]) -> Spread
+    requires { ⌜ (length (now mask) ≤ 16384) × (length (now first) ≡ length (now mask)) × (length (now second) ≡ length (now mask)) ⌝ }
+    ensures { λ r. ⌜ r ≡ spreadOf (length (now (mask .entry))) (one (now (mask .entry))) (seen (now (mask .entry)) (now (first .entry))) (seen (now (mask .entry)) (now (second .entry))) ⌝ }
+{
+    let t = sums(mask, first, second);
+    let d = drift(t.first, t.second);
+    Spread {
+        n: t.n,
+        p: t.n * t.squares - d * d,
+    }
+}
+
+// n and P of two frames, or the refusal.
+fn measure(
+    width: usize,
+    height: usize,
+    full_scale: u64,
+    mask: &[u8],
+    first: &[u16],
+    second: &[u16],
+) -> Measurement
+    ensures { λ r. ⌜ r ≡ measurement (pairVerdict width height «full_scale» (now (mask .entry)) (now (first .entry)) (now (second .entry))) (pairSpread width height (now (mask .entry)) (now (first .entry)) (now (second .entry))) ⌝ }
+{
+    let frames = judge(width, height, full_scale, mask, first, second);
+    if let Verdict::Refused(refusal) = frames {
+        return Measurement::Refused(refusal);
+    }
+    let s = spread_of(mask, first, second);
+    let few = window::refuse_if(7, 0, s.n < 2);
+    let large = window::refuse_if(14, 0, 0x20_0000_0000_0000 <= s.p);
+    match window::then(few, large) {
+        Verdict::Refused(refusal) => Measurement::Refused(refusal),
+        Verdict::Clear => Measurement::Taken(s),
+    }
+}
+
+pub fn pair_variance(
+    width: usize,
+    height: usize,
+    full_scale: u64,
+    mask: &[u8],
+    first: &[u16],
+    second: &[u16],
+) -> Variance
+    ensures answer { λ r. ⌜ r ≡ varianceAnswer width height «full_scale» (now (mask .entry)) (now (first .entry)) (now (second .entry)) ⌝ }
+    ensures paper { λ r. ⌜ variancePaperOf r ≡ variancePaper width height «full_scale» (now (mask .entry)) (now (first .entry)) (now (second .entry)) ⌝ }
+{
+    match measure(width, height, full_scale, mask, first, second) {
+        Measurement::Refused(refusal) => Variance::Refused(refusal),
+        Measurement::Taken(s) => {
+            let q = 2 * (s.n * s.n);
+            Variance::Figures {
+                p: s.p,
+                q,
+                variance: exact::ratio(s.p, q),
+            }
+        }
+    }
+}
+
+pub fn pair_noise(
+    width: usize,
+    height: usize,
+    full_scale: u64,
+    mask: &[u8],
+    first: &[u16],
+    second: &[u16],
+) -> Noise
+    ensures answer { λ r. ⌜ r ≡ noiseAnswer width height «full_scale» (now (mask .entry)) (now (first .entry)) (now (second .entry)) ⌝ }
+    ensures paper { λ r. ⌜ noisePaperOf r ≡ noisePaper width height «full_scale» (now (mask .entry)) (now (first .entry)) (now (second .entry)) ⌝ }
+{
+    match measure(width, height, full_scale, mask, first, second) {
+        Measurement::Refused(refusal) => Noise::Refused(refusal),
+        Measurement::Taken(s) => {
+            let r = exact::root_of(2048 * s.p);
+            Noise::Figure {
+                noise: exact::ratio(r, 64 * s.n),
+                r,
+                n: s.n,
+            }
+        }
+    }
+}
