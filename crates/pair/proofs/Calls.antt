@@ -1,20 +1,22 @@
 -- What both calls answer, from the verdict and from n and P: within the bounds of an accepted pair, each rounded division is the exact fraction's.
 use Prim.Native.Nat.{ℕ, _*_, _^_, _≤_, _<_}
 use mathlib.Core.List.{List}
-use mathlib.Core.Path.{_≡_, refl, ap, _∙_}
+use mathlib.Core.Path.{_≡_, refl}
+use native.Mathlib.Omega.{arith}
 use lib.Ieee.{Float}
 use Rattle.exact.specs.Root.{root}
 use Rattle.exact.specs.Quotient.{quotientOrZero}
 use Rattle.exact.proofs.Quotients.{ranged-quotient}
 use Rattle.exact.proofs.Noises.{variance-ranged, noise-ranged}
 use Rattle.window.specs.declared.Refusal.{Refusal}
+use Rattle.window.specs.declared.Verdict.{Verdict}
 use Rattle.window.specs.declared.Verdict.the-variants as verdict
-use Rattle.pair.specs.Pair.{pairSpread, pairVerdict}
-use Rattle.pair.specs.Answers.{varianceAnswer, variancePaperOf, variancePaper, noiseAnswer, noisePaperOf, noisePaper}
+use Rattle.pair.specs.Pair.{Figures, figuresOf, pairSpread, pairVerdict}
+use Rattle.pair.specs.Answers.{varianceFrom, noiseFrom, varianceAnswer, variancePaperOf, variancePaper, noiseAnswer, noisePaperOf, noisePaper}
 use Rattle.pair.specs.declared.Spread.{Spread}
 use Rattle.pair.specs.declared.Variance.the-variants as variance
 use Rattle.pair.specs.declared.Noise.the-variants as noise
-use Rattle.pair.proofs.Measures.{accepted, measured}
+use Rattle.pair.proofs.Measures.{Accepted, accepted, measured}
 
 module _ (w h full : ℕ) (mask first second : List ℕ) where
   pub variance-refused : (r : Refusal) → pairVerdict w h full mask first second ≡ verdict.Refused r
@@ -53,3 +55,31 @@ module _ (w h full : ℕ) (mask first second : List ℕ) where
         let near : quotientOrZero (root (2048 * pair .p)) (64 * pair .n) ≡ _ =
         ranged-quotient _ _ (noise-ranged (pair .p) (pair .n) (measured (accepted clear))) in
         rw (d, f, e, near, clear) (refl, refl)
+
+-- ---- from an accepted answer back to what it is of
+variance-of : (v : Verdict) (f : Figures) (p q : ℕ) (x : Float) → varianceFrom v f ≡ variance.Figures p q x
+    → (v ≡ verdict.Clear) × (p ≡ f .p) × (q ≡ f .q) × (x ≡ f .variance)
+variance-of verdict.Clear f p q x e = (refl, cc, cc, cc)
+variance-of (verdict.Refused r) f p q x e = let z : _≡_ {A = ℕ} 0 1 = cc in absurd (omega arith)
+
+noise-of : (v : Verdict) (f : Figures) (x : Float) (r n : ℕ) → noiseFrom v f ≡ noise.Figure x r n
+    → (v ≡ verdict.Clear) × (x ≡ f .noise) × (r ≡ f .r) × (n ≡ f .n)
+noise-of verdict.Clear f x r n e = (refl, cc, cc, cc)
+noise-of (verdict.Refused q) f x r n e = let z : _≡_ {A = ℕ} 0 1 = cc in absurd (omega arith)
+
+module _ {w h full : ℕ} {mask first second : List ℕ} where
+  pub variance-was : (p q : ℕ) (x : Float) → varianceAnswer w h full mask first second ≡ variance.Figures p q x
+      → Accepted w h full mask first second
+      × (p ≡ pairSpread w h mask first second .p) × (q ≡ figuresOf (pairSpread w h mask first second) .q) × (x ≡ figuresOf (pairSpread w h mask first second) .variance)
+  unfolding varianceAnswer
+  variance-was p q x e =
+      let was = variance-of (pairVerdict w h full mask first second) (figuresOf (pairSpread w h mask first second)) p q x e in
+      (accepted (was .0), was .1, was .2, was .3)
+
+  pub noise-was : (x : Float) (r n : ℕ) → noiseAnswer w h full mask first second ≡ noise.Figure x r n
+      → Accepted w h full mask first second
+      × (x ≡ figuresOf (pairSpread w h mask first second) .noise) × (r ≡ figuresOf (pairSpread w h mask first second) .r) × (n ≡ pairSpread w h mask first second .n)
+  unfolding noiseAnswer
+  noise-was x r n e =
+      let was = noise-of (pairVerdict w h full mask first second) (figuresOf (pairSpread w h mask first second)) x r n e in
+      (accepted (was .0), was .1, was .2, was .3)

@@ -3,3 +3,4 @@ pub mod Spreads
 pub mod Frames
 pub mod Measures
 pub mod Calls
+pub mod Promises

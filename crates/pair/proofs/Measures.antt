@@ -1,14 +1,17 @@
 -- From the refusals to n and P: the tests that follow the walk are the rest of the one chain, and what passes them is measured.
-use Prim.Native.Nat.{ℕ, _*_, _^_, _≤_, _<_}
+use Prim.Native.Nat.{ℕ, _^_, _≤_, _<_}
 use mathlib.Core.List.{List}
 use mathlib.Core.Path.{_≡_, refl, sym, ap, _∙_}
 use native.Mathlib.Nat.{le-trans}
 use native.Mathlib.Omega.{arith}
 use lib.Dec.{leb, ltb}
 use lib.ListN.{length}
-use borrow.Author.Tests.{ltb-false, leb-false}
+use borrow.Author.Tests.{ltb-false, leb-false, lt-leb}
 use Rattle.laws.specs.Sum.{sumTo}
 use Rattle.laws.proofs.Sums.{sum-le}
+use Rattle.laws.specs.Signed.{apart}
+use Rattle.laws.proofs.Squares.{squares}
+use Rattle.laws.proofs.Cases.{times-le}
 use Rattle.exact.proofs.Noises.{Measured}
 use Rattle.window.specs.Shape.{sitesOf}
 use Rattle.window.specs.View.{one, seen}
@@ -17,16 +20,22 @@ use Rattle.window.specs.declared.Refusal.{Refusal}
 use Rattle.window.specs.declared.Verdict.{Verdict}
 use Rattle.window.specs.declared.Verdict.the-variants as verdict
 use Rattle.window.proofs.Sides.{sites-few}
-use Rattle.window.proofs.Verdicts.{then-clear, unless}
+use Rattle.window.proofs.Verdicts.{then-clear, then-end, unless}
 use Rattle.window.proofs.Views.{one-le}
 use Rattle.pair.specs.Pair.{spreadOf, pairSpread, framesOf, pairVerdict, measurement}
 use Rattle.pair.specs.declared.Spread.{Spread}
 use Rattle.pair.specs.declared.Measurement.the-variants as taken
 use Rattle.pair.proofs.Frames.{Readable, readable}
+use Rattle.pair.proofs.Spreads.{spread-is}
 
 -- 7 and 14, of n and P
 abbrev pub last : Spread → Verdict
 last s = refuseIf 7 0 (ltb (s .n) 2) ⨟ refuseIf 14 0 (leb (2 ^ 53) (s .p))
+
+-- where P has an exact float, 14 adds nothing to 7
+pub last-exact : (s : Spread) → s .p < 2 ^ 53 → last s ≡ refuseIf 7 0 (ltb (s .n) 2)
+unfolding refuseIf
+last-exact s l = rw (lt-leb (2 ^ 53) (s .p) l) (then-end (refuseIf 7 0 (ltb (s .n) 2)))
 
 -- there are no more surveyed sites than sites
 pub few-surveyed : (w h : ℕ) (mask : List ℕ) → sumTo (sitesOf w h) (one mask) ≤ 16384
@@ -48,7 +57,7 @@ module _ (w h full : ℕ) (mask first second : List ℕ) where
 
   -- past 1 to 6, s being n and P
   module _ (s : Spread) (clear : framesOf w h full mask first second ≡ verdict.Clear)
-    (e : s ≡ spreadOf (length mask) (one mask) (seen mask first) (seen mask second)) where
+      (e : s ≡ spreadOf (length mask) (one mask) (seen mask first) (seen mask second)) where
     same-spread : s ≡ pairSpread w h mask first second
     same-spread = e ∙ ap (λ (n : ℕ). spreadOf n (one mask) (seen mask first) (seen mask second)) (readable w h full mask first second clear .of-mask)
 
@@ -63,6 +72,19 @@ module _ (w h full : ℕ) (mask first second : List ℕ) where
     pub last-clear : last s ≡ verdict.Clear
         → taken.Taken s ≡ measurement (pairVerdict w h full mask first second) (pairSpread w h mask first second)
     last-clear f = rw (sym rest ∙ f, ← same-spread)
+
+-- P within the limits of document 01: n and the sum of d² are at most 16,384 and 16,384 × 4095²
+pub below-53 : (w h full : ℕ) (mask first second : List ℕ) → Readable w h full mask first second → pairSpread w h mask first second .p < 2 ^ 53
+below-53 w h full mask first second r =
+    let N = sitesOf w h in
+    let x = seen mask first in
+    let y = seen mask second in
+    let term : (i : ℕ) → i < N → squares x y i ≤ 16769025 = λ i l.
+    let d : apart (y i) (x i) ≤ 4095 = omega (arith, r .in-first i l, r .in-second i l, r .scaled .high) in
+    times-le (apart (y i) (x i)) (apart (y i) (x i)) 4095 4095 d d in
+    let total : sumTo N (squares x y) ≤ 274743705600 = le-trans (sum-le N 16769025 (squares x y) term) (omega (arith, sites-few w h)) in
+    let product = times-le (sumTo N (one mask)) (sumTo N (squares x y)) 16384 274743705600 (few-surveyed w h mask) total in
+    omega (arith, spread-is mask first second N)
 
 -- what was measured, and what was refused
 pub was-taken : (v : Verdict) (s m : Spread) → measurement v s ≡ taken.Taken m → (v ≡ verdict.Clear) × (m ≡ s)

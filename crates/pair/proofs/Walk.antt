@@ -1,7 +1,7 @@
 -- The walk over the sites: a site adds what is seen there, 0 where it is not surveyed, and no sum can outgrow its local, whatever the samples.
 use Prim.Native.Nat.{ℕ, _+_, _*_, _≤_, _<_}
 use mathlib.Core.List.{List}
-use mathlib.Core.Path.{_≡_, refl, sym, ap₂, _∙_}
+use mathlib.Core.Path.{_≡_, sym, ap₂, _∙_}
 use native.Mathlib.Omega.{arith}
 use lib.ListN.{getD}
 use Rattle.laws.specs.Sum.{sumTo}
@@ -64,8 +64,7 @@ module _ (mask first second : List ℕ) where
   pub walk-ends : {i n a b q : ℕ} (N : ℕ) → Walked mask first second i n a b q → i ≡ N → N ≤ 16384
       → (record { n = n; first = a; second = b; squares = q } ≡ totalsOf N (one mask) (seen mask first) (seen mask second))
       × ((n ≤ 16384) × (a ≤ 1073725440) × (b ≤ 1073725440) × (q ≤ 70366596710400))
-  walk-ends N r e few =
-      (
-        rw (← e, r .counted, r .firsts, r .seconds, r .squared),
-        (omega (arith, r .few), omega (arith, r .low-first), omega (arith, r .low-second), omega (arith, r .low-squares)),
-      )
+  walk-ends N r e few = (
+    rw (← e, r .counted, r .firsts, r .seconds, r .squared),
+    (omega (arith, r .few), omega (arith, r .low-first), omega (arith, r .low-second), omega (arith, r .low-squares)),
+  )

@@ -62,7 +62,10 @@ fn judge(
     let over_second = window::samples(width, height, full_scale, mask, second);
     let over = window::then(over_first, over_second);
     let sites = window::then(codes, over);
-    let lengths = window::then(of_mask, window::then(of_first, window::then(of_second, sites)));
+    let lengths = window::then(
+        of_mask,
+        window::then(of_first, window::then(of_second, sites)),
+    );
     window::then(shape, lengths)
 }
 

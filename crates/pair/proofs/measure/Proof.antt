@@ -1,64 +1,47 @@
 -- `measure` is right because 1 to 6 are judged before the walk, 7 and 14 after it, and that is the definition's order.
 use mathlib.Core.Path.{sym, _∙_}
+use borrow.Author.Needs.{needs}
 use Rattle.pair.proofs.Frames.{both}
 use Rattle.pair.proofs.Measures.{lent, frames-refused, last-refused, last-clear}
-use borrow.Author.Needs.{needs}
 use Rattle.pair.proofs.measure.Statement.{statement}
 use Rattle.pair.proofs.measure.Tie as tie
-use Rattle.pair.proofs.measure.Reads as reads
-use Rattle.pair.proofs.measure.Lts as lts
-use Rattle.pair.proofs.judge.Reads as judge-reads
-use Rattle.pair.proofs.spread_of.Reads as spread-of-reads
-use Rattle.window.proofs.refuse_if.Reads as refuse-if-reads
-use Rattle.window.proofs.then.Reads as then-reads
 
--- src/lib.rt:155:9
 judge-requires : tie.Need-judge-requires
 judge-requires c κs = search needs
 
--- src/lib.rt:156:29
 enum-known-frames : tie.Need-enum-known-frames
 enum-known-frames c = search needs
 
--- src/lib.rt:157:9
 returns : tie.Need-returns
 returns c = frames-refused _ _ _ _ _ _ _ (sym (c .before .before .before .judge .ensures) ∙ c .before .frames .given .1)
 
 enum-told : tie.Need-enum-told
 enum-told c = search needs
 
--- src/lib.rt:159:9
 spread-of-requires : tie.Need-spread-of-requires
 spread-of-requires c κs = lent _ _ _ _ _ _ (sym (c .before .before .judge .ensures) ∙ c .enum-told .given .1)
 
--- src/lib.rt:160:9
 refuse-if-requires : tie.Need-refuse-if-requires
 refuse-if-requires c κs = search needs
 
--- src/lib.rt:161:9
 refuse-if-requires-2 : tie.Need-refuse-if-requires-2
 refuse-if-requires-2 c κs = search needs
 
--- src/lib.rt:162:11
 then-requires : tie.Need-then-requires
 then-requires c κs = search needs
 
--- src/lib.rt:163:26
 enum-known-refusal : tie.Need-enum-known-refusal
 enum-known-refusal c = search needs
 
--- src/lib.rt:164:27
 enum-told-2 : tie.Need-enum-told-2
 enum-told-2 c = search needs
 
--- src/lib.rt:145:1
 returns-2 : tie.Need-returns-2
 returns-2 c = let seen = c .before .before .before .before .before .before .before .before in
     let judged = seen .before in
     last-refused _ _ _ _ _ _ _ (sym (judged .before .before .judge .ensures) ∙ judged .enum-told .given .1) (seen .spread-of .ensures) _
     (sym (c .before .before .before .then .ensures ∙ both (c .before .before .before .before .before .before .refuse-if .ensures) (c .before .before .before .before .refuse-if2 .ensures)) ∙ c .before .refusal .given .1)
 
--- src/lib.rt:145:1
 returns-3 : tie.Need-returns-3
 returns-3 c = let seen = c .before .before .before .before .before .before .before in
     let judged = seen .before in

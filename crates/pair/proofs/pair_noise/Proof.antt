@@ -1,55 +1,41 @@
-use Prim.Native.Nat.{_^_, _≤_, _<_}
 -- `pair_noise` is right because n and P are measured where nothing is refused, and there 2048 × P fits 64 bits and its root an exact float.
-use native.Mathlib.Omega.{arith}
+use Prim.Native.Nat.{_^_, _≤_, _<_}
 use mathlib.Core.Path.{sym, _∙_}
+use native.Mathlib.Omega.{arith}
+use borrow.Author.Needs.{needs}
 use Rattle.pair.proofs.Calls.{in-bounds, noise-refused, noise-given}
 use Rattle.pair.proofs.Measures.{was-taken, was-refused}
-use borrow.Author.Needs.{needs}
 use Rattle.pair.proofs.pair_noise.Statement.{statement}
 use Rattle.pair.proofs.pair_noise.Tie as tie
-use Rattle.pair.proofs.pair_noise.Reads as reads
-use Rattle.pair.proofs.pair_noise.Lts as lts
-use Rattle.exact.proofs.ratio.Reads as ratio-reads
-use Rattle.exact.proofs.root_of.Reads as root-of-reads
-use Rattle.pair.proofs.measure.Reads as measure-reads
 
 -- n and P that were measured
 bounds : (c : tie.After-s) → (c .s .given .0 .0 .n ≤ 16384) × (c .s .given .0 .0 .p < 2 ^ 53)
 bounds c = let was = was-taken _ _ _ (sym (c .before .before .measure .ensures) ∙ c .s .given .1) in in-bounds _ _ _ _ _ _ _ (was .0) (was .1)
 
--- src/lib.rt:203:11
 measure-requires : tie.Need-measure-requires
 measure-requires c κs = search needs
 
--- src/lib.rt:204:30
 enum-known-refusal : tie.Need-enum-known-refusal
 enum-known-refusal c = search needs
 
--- src/lib.rt:205:28
 enum-known-s : tie.Need-enum-known-s
 enum-known-s c = search needs
 
--- src/lib.rt:206:36
 mul-root-of : tie.Need-mul-root-of
 mul-root-of c = omega (arith, bounds (c .before .before) .1)
 
--- src/lib.rt:206:17
 root-of-requires : tie.Need-root-of-requires
 root-of-requires c κs = search needs
 
--- src/lib.rt:208:40
 mul-ratio : tie.Need-mul-ratio
 mul-ratio c = omega (arith, bounds (c .before .before .before .before) .0)
 
--- src/lib.rt:208:24
 ratio-requires : tie.Need-ratio-requires
 ratio-requires c κs = search needs
 
--- src/lib.rt:192:1
 returns : tie.Need-returns
 returns c = noise-refused _ _ _ _ _ _ _ (was-refused _ _ _ (sym (c .before .before .before .measure .ensures) ∙ c .before .refusal .given .1))
 
--- src/lib.rt:192:1
 returns-2 : tie.Need-returns-2
 returns-2 c = let s = c .before .before .before .before .before in
     let was = was-taken _ _ _ (sym (s .before .before .measure .ensures) ∙ s .s .given .1) in

@@ -1,15 +1,10 @@
 -- `spread_of` is right because the sum of d is the difference of the two frames' sums, and its square is at most what it is taken off.
-use mathlib.Core.Path.{_∙_}
 use Prim.Native.Nat.{_*_, _^_, _<_, _≤_}
 use native.Mathlib.Omega.{arith}
-use Rattle.pair.proofs.Spreads.{enough, spread-from, product-fits}
 use borrow.Author.Needs.{needs}
+use Rattle.pair.proofs.Spreads.{enough, spread-from, product-fits}
 use Rattle.pair.proofs.spread_of.Statement.{statement}
 use Rattle.pair.proofs.spread_of.Tie as tie
-use Rattle.pair.proofs.spread_of.Reads as reads
-use Rattle.pair.proofs.spread_of.Lts as lts
-use Rattle.pair.proofs.drift.Reads as drift-reads
-use Rattle.pair.proofs.sums.Reads as sums-reads
 
 -- n × (sum of d²) fits, and (sum of d)² is no greater
 product : (c : tie.After-sums) → c .sums .result .n * c .sums .result .squares < 2 ^ 64
@@ -18,27 +13,21 @@ product c = product-fits _ _ (c .sums .ensures .1 .0) (c .sums .ensures .1 .3)
 square : (c : tie.After-drift) → c .drift .result * c .drift .result ≤ c .before .sums .result .n * c .before .sums .result .squares
 square c = rw (c .drift .ensures) (enough _ _ _ _ _ (c .before .sums .ensures .0))
 
--- src/lib.rt:136:9
 sums-requires : tie.Need-sums-requires
 sums-requires c κs = search needs
 
--- src/lib.rt:137:9
 drift-requires : tie.Need-drift-requires
 drift-requires c κs = search needs
 
--- src/lib.rt:140:12
 mul-t6 : tie.Need-mul-t6
 mul-t6 c = omega (arith, product (c .before .before))
 
--- src/lib.rt:140:30
 mul-t7 : tie.Need-mul-t7
 mul-t7 c = omega (arith, product (c .before .before), square (c .before))
 
--- src/lib.rt:140:12
 sub-t8 : tie.Need-sub-t8
 sub-t8 c = square (c .before)
 
--- src/lib.rt:132:1
 returns : tie.Need-returns
 returns c = spread-from _ _ _ _ _ (c .before .before .sums .ensures .0) _ (c .before .drift .ensures)
 

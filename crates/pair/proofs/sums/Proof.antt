@@ -1,18 +1,13 @@
 -- `sums` is right because each turn adds to every sum what is seen at one more site.
-use Rattle.pair.proofs.Walk.{Walked, walk-begins, walk-more, walk-ends}
-use lib.ListN.{length}
-use Rattle.window.proofs.Views.{seen-le}
-use mathlib.Core.Path.{_≡_, refl, ap, _∙_}
 use Prim.Native.Nat.{_-_, _≤_}
+use mathlib.Core.Path.{_≡_, _∙_}
 use native.Mathlib.Omega.{arith}
+use lib.ListN.{length}
 use borrow.Author.Needs.{needs}
+use Rattle.pair.proofs.Walk.{Walked, walk-begins, walk-more, walk-ends}
+use Rattle.window.proofs.Views.{seen-le}
 use Rattle.pair.proofs.sums.Statement.{statement}
 use Rattle.pair.proofs.sums.Tie as tie
-use Rattle.pair.proofs.sums.Reads as reads
-use Rattle.pair.proofs.sums.Lts as lts
-use Rattle.pair.proofs.squared.Reads as squared-reads
-use Rattle.pair.proofs.wide.Reads as wide-reads
-use Rattle.window.proofs.seen_at.Reads as seen-at-reads
 
 abbrev Inv-loop : tie.InvT-loop
 Inv-loop mask first second n₀ of-first₀ of-second₀ squares₀ i₀ i-end n of-first of-second squares i =
@@ -25,83 +20,63 @@ abbrev μ-loop : tie.MeasureT-loop
 added : (c : tie.After-wide Inv-loop μ-loop) → c .wide .result ≤ 1
 added c = rw (c .wide .ensures, c .before .seen-at3 .ensures) (seen-le _ 1 1 (omega arith))
 
--- src/lib.rt:114:5
 loop-holds : tie.Need-loop-holds Inv-loop μ-loop
 loop-holds c = (search needs, search needs, walk-begins _ _ _)
 
--- src/lib.rt:115:20
 shared-slice-read-code : tie.Need-shared-slice-read-code Inv-loop μ-loop
 shared-slice-read-code c = search needs
 
--- src/lib.rt:116:39
 mul-seen-at : tie.Need-mul-seen-at Inv-loop μ-loop
 mul-seen-at c = search needs
 
--- src/lib.rt:116:39
 shared-slice-read-seen-at : tie.Need-shared-slice-read-seen-at Inv-loop μ-loop
 shared-slice-read-seen-at c = search needs
 
--- src/lib.rt:116:13
 seen-at-requires : tie.Need-seen-at-requires Inv-loop μ-loop
 seen-at-requires c κs = search needs
 
--- src/lib.rt:117:39
 mul-seen-at-2 : tie.Need-mul-seen-at-2 Inv-loop μ-loop
 mul-seen-at-2 c = search needs
 
--- src/lib.rt:117:39
 shared-slice-read-seen-at-2 : tie.Need-shared-slice-read-seen-at-2 Inv-loop μ-loop
 shared-slice-read-seen-at-2 c = search needs
 
--- src/lib.rt:117:13
 seen-at-requires-2 : tie.Need-seen-at-requires-2 Inv-loop μ-loop
 seen-at-requires-2 c κs = search needs
 
--- src/lib.rt:118:19
 seen-at-requires-3 : tie.Need-seen-at-requires-3 Inv-loop μ-loop
 seen-at-requires-3 c κs = search needs
 
--- src/lib.rt:118:14
 wide-requires : tie.Need-wide-requires Inv-loop μ-loop
 wide-requires c κs = search needs
 
--- src/lib.rt:118:9
 add-n : tie.Need-add-n Inv-loop μ-loop
 add-n c = omega (arith, added c)
 
--- src/lib.rt:119:21
 wide-requires-2 : tie.Need-wide-requires-2 Inv-loop μ-loop
 wide-requires-2 c κs = search needs
 
--- src/lib.rt:119:9
 add-of-first : tie.Need-add-of-first Inv-loop μ-loop
 add-of-first c = omega arith
 
--- src/lib.rt:120:22
 wide-requires-3 : tie.Need-wide-requires-3 Inv-loop μ-loop
 wide-requires-3 c κs = search needs
 
--- src/lib.rt:120:9
 add-of-second : tie.Need-add-of-second Inv-loop μ-loop
 add-of-second c = omega arith
 
--- src/lib.rt:121:20
 squared-requires : tie.Need-squared-requires Inv-loop μ-loop
 squared-requires c κs = search needs
 
--- src/lib.rt:121:9
 add-squares : tie.Need-add-squares Inv-loop μ-loop
 add-squares c = omega (arith, c .squared .ensures .1)
 
--- src/lib.rt:114:9
 add-i : tie.Need-add-i Inv-loop μ-loop
 add-i c = omega arith
 
--- src/lib.rt:114:5
 loop-less : tie.Need-loop-less Inv-loop μ-loop
 loop-less c = omega arith
 
--- src/lib.rt:114:5
 loop-again : tie.Need-loop-again Inv-loop μ-loop
 loop-again c = let site = c .before .before .before .before .before .before in
     let loop = site .before .before .before .before .before .loop in
@@ -119,19 +94,15 @@ loop-again c = let site = c .before .before .before .before .before .before in
           (c .squared .ensures),
     )
 
--- src/lib.rt:124:12
 cast-t22 : tie.Need-cast-t22 Inv-loop μ-loop
 cast-t22 c = omega arith
 
--- src/lib.rt:125:16
 cast-t23 : tie.Need-cast-t23 Inv-loop μ-loop
 cast-t23 c = omega arith
 
--- src/lib.rt:126:17
 cast-t24 : tie.Need-cast-t24 Inv-loop μ-loop
 cast-t24 c = omega arith
 
--- src/lib.rt:105:1
 returns : tie.Need-returns Inv-loop μ-loop
 returns c = walk-ends _ _ _ _ (c .before .loop .inv .2) (omega arith) (omega arith)
 

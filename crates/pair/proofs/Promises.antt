@@ -1,0 +1,131 @@
+-- What is promised of `pair_variance` and `pair_noise`, for any numbers, any mask and any two frames.
+use Prim.Native.Nat.{ℕ, _*_, _^_, _<_}
+use mathlib.Core.List.{List, [], _∷_}
+use mathlib.Core.Path.{_≡_, refl, sym, ap, _∙_}
+use lib.Dec.{T, leb, ltb}
+use lib.Ieee.{Float, binary64, ofBits}
+use lib.Ieee.Positive.{num, den}
+use lib.IntN.{pos}
+use lib.ListN.{length, getD}
+use Rattle.laws.proofs.Signeds.{⊖-self}
+use Rattle.exact.specs.Root.{root, IsRoot}
+use Rattle.exact.specs.Quotient.{quotient}
+use Rattle.exact.specs.Bound.{plain, CloseTo, NearRoot}
+use Rattle.exact.proofs.Roots.{root-is}
+use Rattle.exact.proofs.Quotients.{zero-bits}
+use Rattle.exact.proofs.Noises.{variance-near, noise-near, noise-plain, noise-zero}
+use Rattle.window.specs.Shape.{badSides, badScale, sitesOf}
+use Rattle.window.specs.View.{badCode, above, seen}
+use Rattle.window.specs.Verdict.{_⨟_, refuseIf, refuseFirst}
+use Rattle.window.specs.Judge.{shapeOf, otherThan}
+use Rattle.window.specs.declared.Verdict.the-variants as verdict
+use Rattle.window.proofs.Verdicts.{Tabled, Refuses, test, testFirst, tabled, refuses, then-assoc, then-same}
+use Rattle.window.proofs.Views.{Agree, same-view}
+use Rattle.pair.specs.Pair.{difference, numerator, spreadOf, pairSpread, framesOf, pairVerdict}
+use Rattle.pair.specs.Answers.{varianceAnswer, variancePaper, noiseAnswer, noisePaper}
+use Rattle.pair.specs.declared.Variance.{Variance}
+use Rattle.pair.specs.declared.Variance.the-variants as variance
+use Rattle.pair.specs.declared.Noise.{Noise}
+use Rattle.pair.specs.declared.Noise.the-variants as noise
+use Rattle.pair.proofs.Spreads.{SameDifference, whole, zero-same, same-zero}
+use Rattle.pair.proofs.Frames.{readable}
+use Rattle.pair.proofs.Measures.{below-53, measured, last-exact}
+use Rattle.pair.proofs.Calls.{variance-was, noise-was}
+
+module _ (w h full : ℕ) (mask first second : List ℕ) where
+  -- only: no second answer meets the promise
+  pub only : ((a b : Variance) → a ≡ varianceAnswer w h full mask first second → b ≡ varianceAnswer w h full mask first second → a ≡ b)
+      × ((a b : Noise) → a ≡ noiseAnswer w h full mask first second → b ≡ noiseAnswer w h full mask first second → a ≡ b)
+  only = (λ a b p q. p ∙ sym q, λ a b p q. p ∙ sym q)
+
+  -- given: both calls refuse exactly as document 01 tables it, in this order
+  pub given : Tabled (pairVerdict w h full mask first second)
+      (test 1 0 (badSides w h)
+      ∷ test 2 0 (badScale full)
+      ∷ test 4 0 (otherThan (sitesOf w h) (length mask))
+      ∷ test 4 0 (otherThan (sitesOf w h) (length first))
+      ∷ test 4 0 (otherThan (sitesOf w h) (length second))
+      ∷ testFirst 5 (sitesOf w h) (badCode mask)
+      ∷ testFirst 6 (sitesOf w h) (above full (seen mask first))
+      ∷ testFirst 6 (sitesOf w h) (above full (seen mask second))
+      ∷ test 7 0 (ltb (pairSpread w h mask first second .n) 2)
+      ∷ test 14 0 (leb (2 ^ 53) (pairSpread w h mask first second .p))
+      ∷ [])
+  unfolding pairVerdict framesOf shapeOf refuseFirst
+  given = simp then-assoc (tabled _ _)
+
+  -- refused: where the number is not 0 every other number but the place is 0, and where it is 0 so is the place
+  pub refused :
+      Refuses (variancePaper w h full mask first second .number) (variancePaper w h full mask first second .place)
+      ((variancePaper w h full mask first second .p ≡ 0)
+      × (variancePaper w h full mask first second .q ≡ 0)
+      × (variancePaper w h full mask first second .variance ≡ ofBits binary64 0))
+      × Refuses (noisePaper w h full mask first second .number) (noisePaper w h full mask first second .place)
+      ((noisePaper w h full mask first second .noise ≡ ofBits binary64 0)
+      × (noisePaper w h full mask first second .r ≡ 0)
+      × (noisePaper w h full mask first second .n ≡ 0))
+  unfolding variancePaper noisePaper
+  refused = (
+    refuses (pairVerdict w h full mask first second) given refl (λ r e. rw e (refl, refl, refl)),
+    refuses (pairVerdict w h full mask first second) given refl (λ r e. rw e (refl, refl, refl)),
+  )
+
+  -- 14 is never given: P stays below 2^53 for any two frames that 1 to 6 let pass, and no answer changes without the test
+  pub in-limits : framesOf w h full mask first second ≡ verdict.Clear → pairSpread w h mask first second .p < 2 ^ 53
+  in-limits e = below-53 w h full mask first second (readable w h full mask first second e)
+
+  pub spare : pairVerdict w h full mask first second
+      ≡ framesOf w h full mask first second ⨟ refuseIf 7 0 (ltb (pairSpread w h mask first second .n) 2)
+  unfolding pairVerdict
+  spare = then-same (framesOf w h full mask first second) (λ e. last-exact (pairSpread w h mask first second) (in-limits e))
+
+  -- of an accepted variance: P is n × (sum of d²) − (sum of d)² over signed differences
+  pub signed : (p q : ℕ) (x : Float) → varianceAnswer w h full mask first second ≡ variance.Figures p q x
+      → pos p ≡ numerator (sitesOf w h) (pairSpread w h mask first second .n) (difference (seen mask first) (seen mask second))
+  unfolding spreadOf
+  signed p q x e = ap pos (variance-was p q x e .1) ∙ whole mask first second (sitesOf w h)
+
+  -- it is 0 exactly where the differences at all surveyed sites are equal
+  pub flat : (p q : ℕ) (x : Float) → varianceAnswer w h full mask first second ≡ variance.Figures p q x
+      → (p ≡ 0 → SameDifference mask first second (length mask)) × (SameDifference mask first second (length mask) → p ≡ 0)
+  flat p q x e =
+      let was = variance-was p q x e in
+      rw (was .1, was .0 .frames .of-mask) (zero-same mask first second (sitesOf w h), same-zero mask first second (sitesOf w h))
+
+  -- the float is within one part in 2^52 of P/Q
+  pub near : (p q : ℕ) (x : Float) → varianceAnswer w h full mask first second ≡ variance.Figures p q x → CloseTo (2 ^ 52) x p q
+  near p q x e =
+      let was = variance-was p q x e in
+      rw (was .1, was .2, was .3) (variance-near _ _ (measured (was .0)))
+
+  -- of an accepted noise: r is the greatest whole number with r² ≤ 2048 × P, and 32 × n × figure is at most 1 from the root of 512 × P
+  pub noise-close : (x : Float) (r n : ℕ) → noiseAnswer w h full mask first second ≡ noise.Figure x r n
+      → IsRoot (2048 * pairSpread w h mask first second .p) r
+      × T (plain x)
+      × NearRoot (512 * pairSpread w h mask first second .p) (32 * n * num x) (den x)
+  noise-close x r n e =
+      let P = pairSpread w h mask first second .p in
+      let was = noise-was x r n e in
+      rw (was .1, was .2, was .3) (root-is (2048 * P), noise-plain P _ (measured (was .0)), noise-near P _ (measured (was .0)))
+
+  -- and where P is 0 the figure is 0
+  pub noise-none : (x : Float) (r n : ℕ) → noiseAnswer w h full mask first second ≡ noise.Figure x r n
+      → pairSpread w h mask first second .p ≡ 0 → x ≡ ofBits binary64 0
+  noise-none x r n e z =
+      let was = noise-was x r n e in
+      was .1
+      ∙ ap (λ (P : ℕ). quotient (root (2048 * P)) (64 * pairSpread w h mask first second .n)) z
+      ∙ noise-zero (pairSpread w h mask first second .n) (measured (was .0) .some)
+      ∙ sym zero-bits
+
+-- blind: what a frame holds at a site that is not surveyed changes no answer
+pub blind : (w h full : ℕ) {mask first first′ second second′ : List ℕ} → Agree mask first first′ → Agree mask second second′
+    → (varianceAnswer w h full mask first second ≡ varianceAnswer w h full mask first′ second′)
+    × (noiseAnswer w h full mask first second ≡ noiseAnswer w h full mask first′ second′)
+unfolding varianceAnswer noiseAnswer pairVerdict framesOf
+blind w h full a b = rw (a .long, b .long, same-view a, same-view b) (refl, refl)
+
+-- one buffer given twice has P = 0
+pub twice : (w h full : ℕ) (mask frame : List ℕ) (p q : ℕ) (x : Float) → varianceAnswer w h full mask frame frame ≡ variance.Figures p q x → p ≡ 0
+twice w h full mask frame p q x e =
+    flat w h full mask frame frame p q x e .1 (λ i j k l a b. ⊖-self (getD frame i 0) ∙ sym (⊖-self (getD frame j 0)))
