@@ -12,8 +12,8 @@ use Rattle.exact.specs.Root.{root, IsRoot}
 use Rattle.exact.specs.Quotient.{quotient}
 use Rattle.exact.specs.Bound.{plain, CloseTo, NearRoot}
 use Rattle.exact.proofs.Roots.{root-is}
-use Rattle.exact.proofs.Quotients.{zero-bits}
-use Rattle.exact.proofs.Noises.{variance-near, noise-near, noise-plain, noise-zero}
+use Rattle.exact.proofs.Quotients.{quotient-zero, zero-bits}
+use Rattle.exact.proofs.Noises.{variance-ranged, variance-near, noise-near, noise-plain, noise-zero}
 use Rattle.window.specs.Shape.{badSides, badScale, sitesOf}
 use Rattle.window.specs.View.{badCode, above, seen}
 use Rattle.window.specs.Verdict.{_⨟_, refuseIf, refuseFirst}
@@ -97,6 +97,16 @@ module _ (w h full : ℕ) (mask first second : List ℕ) where
   near p q x e =
       let was = variance-was p q x e in
       rw (was .1, was .2, was .3) (variance-near _ _ (measured (was .0)))
+
+  -- and 0 where P is 0
+  pub none : (p q : ℕ) (x : Float) → varianceAnswer w h full mask first second ≡ variance.Figures p q x → p ≡ 0 → x ≡ ofBits binary64 0
+  none p q x e z =
+      let was = variance-was p q x e in
+      let s = pairSpread w h mask first second in
+      was .3
+      ∙ ap (λ (P : ℕ). quotient P (2 * (s .n * s .n))) (sym (was .1) ∙ z)
+      ∙ quotient-zero (2 * (s .n * s .n)) (variance-ranged (s .p) (s .n) (measured (was .0)) .some)
+      ∙ sym zero-bits
 
   -- of an accepted noise: r is the greatest whole number with r² ≤ 2048 × P, and 32 × n × figure is at most 1 from the root of 512 × P
   pub noise-close : (x : Float) (r n : ℕ) → noiseAnswer w h full mask first second ≡ noise.Figure x r n

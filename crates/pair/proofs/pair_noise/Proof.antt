@@ -22,13 +22,13 @@ enum-known-s : tie.Need-enum-known-s
 enum-known-s c = search needs
 
 mul-root-of : tie.Need-mul-root-of
-mul-root-of c = omega (arith, bounds (c .before .before) .1)
+mul-root-of c = omega (arith, bounds (c .before .before))
 
 root-of-requires : tie.Need-root-of-requires
 root-of-requires c κs = search needs
 
 mul-ratio : tie.Need-mul-ratio
-mul-ratio c = omega (arith, bounds (c .before .before .before .before) .0)
+mul-ratio c = omega (arith, bounds (c .before .before .before .before))
 
 ratio-requires : tie.Need-ratio-requires
 ratio-requires c κs = search needs
