@@ -63,8 +63,8 @@ module _ (mask first second : List ℕ) where
   -- after all N sites
   pub walk-ends : {i n a b q : ℕ} (N : ℕ) → Walked mask first second i n a b q → i ≡ N → N ≤ 16384
       → (record { n = n; first = a; second = b; squares = q } ≡ totalsOf N (one mask) (seen mask first) (seen mask second))
-      × ((n ≤ 16384) × (a ≤ 1073725440) × (b ≤ 1073725440) × (q ≤ 70366596710400))
+      × ((n ≤ 16384) × (q ≤ 70366596710400))
   walk-ends N r e few = (
     rw (← e, r .counted, r .firsts, r .seconds, r .squared),
-    (omega (arith, r .few), omega (arith, r .low-first), omega (arith, r .low-second), omega (arith, r .low-squares)),
+    (omega (arith, r .few), omega (arith, r .low-squares)),
   )

@@ -32,6 +32,7 @@ unfoldable pub spreadOf : ℕ → (ℕ → ℕ) → (ℕ → ℕ) → (ℕ → �
 spreadOf sites one first second =
     record { n = sumTo sites one; p = natAbs (numerator sites (sumTo sites one) (difference first second)) }
 
+-- n and P of two frames in a window
 abbrev pub pairSpread : ℕ → ℕ → List ℕ → List ℕ → List ℕ → Spread
 pairSpread w h mask first second = spreadOf (sitesOf w h) (one mask) (seen mask first) (seen mask second)
 

@@ -1,4 +1,4 @@
--- Document 01, "Pair noise": the sums that one walk over the sites makes, in whole numbers. The law `spread-of` makes n and P of them.
+-- Document 01, "Pair noise": the sums that one walk over the sites makes, in whole numbers. The law `spread-from` makes n and P of them.
 use Prim.Native.Nat.{ℕ, _*_}
 use Rattle.laws.specs.Sum.{sumTo}
 use Rattle.laws.specs.Signed.{apart}

@@ -52,31 +52,31 @@ fn judge(
 ) -> Verdict
     ensures { λ r. ⌜ r ≡ framesOf width height «full_scale» (now (mask .entry)) (now (first .entry)) (now (second .entry)) ⌝ }
 {
-    let n = window::sites(width, height);
+    let needed = window::sites(width, height);
     let shape = window::shape(width, height, full_scale);
-    let of_mask = window::refuse_if(4, 0, mask.len() != n);
-    let of_first = window::refuse_if(4, 0, first.len() != n);
-    let of_second = window::refuse_if(4, 0, second.len() != n);
+    let of_mask = window::refuse_if(4, 0, mask.len() != needed);
+    let of_first = window::refuse_if(4, 0, first.len() != needed);
+    let of_second = window::refuse_if(4, 0, second.len() != needed);
     let codes = window::codes(width, height, mask);
     let over_first = window::samples(width, height, full_scale, mask, first);
     let over_second = window::samples(width, height, full_scale, mask, second);
     let over = window::then(over_first, over_second);
     let sites = window::then(codes, over);
-    let lengths = window::then(
+    let lent = window::then(
         of_mask,
         window::then(of_first, window::then(of_second, sites)),
     );
-    window::then(shape, lengths)
+    window::then(shape, lent)
 }
 
-fn wide(count: u16) -> u32
-    ensures { λ r. ⌜ r ≡ count ⌝ }
+fn wide(value: u16) -> u32
+    ensures { λ r. ⌜ r ≡ value ⌝ }
 {
-    count as u32
+    value as u32
 }
 
-// |second − first| of two samples.
-fn difference(first: u16, second: u16) -> u16
+// |d| of two samples.
+fn samples_apart(first: u16, second: u16) -> u16
     ensures { λ r. ⌜ r ≡ apart second first ⌝ }
 {
     if first < second {
@@ -86,15 +86,16 @@ fn difference(first: u16, second: u16) -> u16
     }
 }
 
+// d² of two samples.
 fn squared(first: u16, second: u16) -> u64
     ensures { λ r. ⌜ (r ≡ apart second first * apart second first) × (r ≤ 4294836225) ⌝ }
 {
-    let d = wide(difference(first, second));
+    let d = wide(samples_apart(first, second));
     (d * d) as u64
 }
 
-// |second − first| of the samples' sums.
-fn drift(first: u64, second: u64) -> u64
+// |sum of d|, of the samples' sums.
+fn sums_apart(first: u64, second: u64) -> u64
     ensures { λ r. ⌜ r ≡ apart second first ⌝ }
 {
     if first < second {
@@ -108,7 +109,7 @@ fn drift(first: u64, second: u64) -> u64
 fn sums(mask: &[u8], first: &[u16], second: &[u16]) -> Totals
     requires { ⌜ (length (now mask) ≤ 16384) × (length (now first) ≡ length (now mask)) × (length (now second) ≡ length (now mask)) ⌝ }
     ensures { λ r. ⌜ r ≡ totalsOf (length (now (mask .entry))) (one (now (mask .entry))) (seen (now (mask .entry)) (now (first .entry))) (seen (now (mask .entry)) (now (second .entry))) ⌝ }
-    ensures { λ r. ⌜ (r .n ≤ 16384) × (r .first ≤ 1073725440) × (r .second ≤ 1073725440) × (r .squares ≤ 70366596710400) ⌝ }
+    ensures { λ r. ⌜ (r .n ≤ 16384) × (r .squares ≤ 70366596710400) ⌝ }
 {
     let mut n: u32 = 0;
     let mut of_first: u32 = 0;
@@ -137,7 +138,7 @@ fn spread_of(mask: &[u8], first: &[u16], second: &[u16]) -> Spread
     ensures { λ r. ⌜ r ≡ spreadOf (length (now (mask .entry))) (one (now (mask .entry))) (seen (now (mask .entry)) (now (first .entry))) (seen (now (mask .entry)) (now (second .entry))) ⌝ }
 {
     let t = sums(mask, first, second);
-    let d = drift(t.first, t.second);
+    let d = sums_apart(t.first, t.second);
     Spread {
         n: t.n,
         p: t.n * t.squares - d * d,
@@ -168,6 +169,7 @@ fn measure(
     }
 }
 
+// P, Q and P/Q of two frames, or the refusal.
 pub fn pair_variance(
     width: usize,
     height: usize,
@@ -192,6 +194,7 @@ pub fn pair_variance(
     }
 }
 
+// The noise of two frames, or the refusal.
 pub fn pair_noise(
     width: usize,
     height: usize,

@@ -10,8 +10,8 @@ use Rattle.pair.proofs.squared.Tie as tie
 small : (c : tie.After-wide) → c .wide .result * c .wide .result ≤ 4294836225
 small c = mul-le-mul {n₂ = 65535} {m₂ = 65535} (omega arith) (omega arith)
 
-difference-requires : tie.Need-difference-requires
-difference-requires c κs = search needs
+samples-apart-requires : tie.Need-samples-apart-requires
+samples-apart-requires c κs = search needs
 
 wide-requires : tie.Need-wide-requires
 wide-requires c κs = search needs
@@ -23,8 +23,8 @@ cast-result : tie.Need-cast-result
 cast-result c = omega (arith, small c)
 
 returns : tie.Need-returns
-returns c = (rw (← c .before .difference .ensures, ← c .wide .ensures), small c)
+returns c = (rw (← c .before .samples-apart .ensures, ← c .wide .ensures), small c)
 
 pub squared-spec : {M : Type 1} → statement M
 squared-spec =
-    tie.close (tie.spec difference-requires wide-requires mul-result cast-result returns)
+    tie.close (tie.spec samples-apart-requires wide-requires mul-result cast-result returns)
