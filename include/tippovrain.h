@@ -71,6 +71,56 @@ uint64_t tip_unpack_raw10(size_t width, size_t height,
                           uint16_t *out, size_t out_len,
                           uint64_t *place);
 
+/*
+ * The variance of a pair of frames: EMVA 1288, release 3 form, in which the mean difference is taken off. d is second
+ * minus first at a surveyed site (mask code 0), n the count of surveyed sites.
+ *
+ *   full_scale   grey levels, 1 to 4095
+ *   mask         width * height codes, only read: 0 surveyed, 1 gap, 2 defect, 3 filled
+ *   first,       width * height samples each, only read; a sample at any code but 0 may be any number, and changes
+ *   second       nothing. Both may be one buffer: p is then 0
+ *   place        written: the first offending site for 5 and 6, else 0
+ *   p            written: n * (sum of d * d) - (sum of d) * (sum of d)
+ *   q            written: 2 * n * n
+ *   variance     written: p / q, rounded once, in grey levels squared
+ *
+ * Refusals, in the order tested: 1; 2; 4 (mask, first or second); 5; 6 (all sites of first, then all of second);
+ * 7 (fewer than 2 surveyed sites); 14, which no frames within these limits can give.
+ *
+ *   const uint8_t mask[4] = {0, 0, 0, 0};
+ *   const uint16_t first[4] = {100, 101, 102, 103}, second[4] = {101, 101, 102, 104};
+ *   uint64_t place, p, q;
+ *   double variance;
+ *   tip_pair_variance(2, 2, 1023, mask, 4, first, 4, second, 4, &place, &p, &q, &variance);
+ *                                                        gives 0, and p is 4, q 32, variance 0.125
+ */
+uint64_t tip_pair_variance(size_t width, size_t height, uint64_t full_scale,
+                           const uint8_t *mask, size_t mask_len,
+                           const uint16_t *first, size_t first_len,
+                           const uint16_t *second, size_t second_len,
+                           uint64_t *place, uint64_t *p, uint64_t *q, double *variance);
+
+/*
+ * The noise of a pair of frames, in grey levels: the root of the variance above. Inputs, place and refusals are those
+ * of tip_pair_variance.
+ *
+ *   r       written: the greatest whole number with r * r <= 2048 * p
+ *   n       written: the count of surveyed sites
+ *   noise   written: r / (64 * n), rounded once; 32 * n * noise is at most 1 from the root of 512 * p, and noise is 0
+ *           where p is
+ *
+ *   With mask, first and second as above:
+ *   uint64_t place, r, n;
+ *   double noise;
+ *   tip_pair_noise(2, 2, 1023, mask, 4, first, 4, second, 4, &place, &r, &n, &noise);
+ *                                                        gives 0, and r is 90, n 4, noise 0.3515625
+ */
+uint64_t tip_pair_noise(size_t width, size_t height, uint64_t full_scale,
+                        const uint8_t *mask, size_t mask_len,
+                        const uint16_t *first, size_t first_len,
+                        const uint16_t *second, size_t second_len,
+                        uint64_t *place, uint64_t *r, uint64_t *n, double *noise);
+
 #ifdef __cplusplus
 }
 #endif

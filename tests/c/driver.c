@@ -136,12 +136,63 @@ static void unpack_raw10(void)
               refuses_to_unpack(refused[i].number, refused[i].width, refused[i].height, refused[i].bytes_len, refused[i].out_len));
 }
 
+/* ---- windows of 2 x 2, which the calls with a mask are tried on ---- */
+
+static const uint8_t all_surveyed[4] = {0, 0, 0, 0}, one_surveyed[4] = {1, 2, 3, 0}, bad_code[4] = {0, 0, 4, 0};
+static const uint16_t k1_first[4] = {100, 101, 102, 103}, k1_second[4] = {101, 101, 102, 104};
+
+/* The bits of a float: -0.0 and a NaN are told apart from what they compare equal to. */
+static uint64_t bits(double x)
+{
+    union { double x; uint64_t bits; } of;
+    of.x = x;
+    return of.bits;
+}
+
+/* ---- tip_pair_variance, tip_pair_noise ---- */
+
+static int has_variance(const uint8_t mask[4], uint64_t full_scale, const uint16_t first[4], const uint16_t second[4],
+                        uint64_t number, uint64_t place, uint64_t p, uint64_t q, double variance)
+{
+    uint64_t at = UNWRITTEN, got_p = UNWRITTEN, got_q = UNWRITTEN;
+    double got = UNWRITTEN;
+    return tip_pair_variance(2, 2, full_scale, mask, 4, first, 4, second, 4, &at, &got_p, &got_q, &got) == number
+        && at == place && got_p == p && got_q == q && bits(got) == bits(variance);
+}
+
+static int has_noise(const uint8_t mask[4], uint64_t full_scale, const uint16_t first[4], const uint16_t second[4],
+                     uint64_t number, uint64_t place, uint64_t r, uint64_t n, double noise)
+{
+    uint64_t at = UNWRITTEN, got_r = UNWRITTEN, got_n = UNWRITTEN;
+    double got = UNWRITTEN;
+    return tip_pair_noise(2, 2, full_scale, mask, 4, first, 4, second, 4, &at, &got_r, &got_n, &got) == number
+        && at == place && got_r == r && got_n == n && bits(got) == bits(noise);
+}
+
+static void pair(void)
+{
+    static const uint16_t drifted[4] = {107, 108, 109, 110};
+
+    check("tip_pair_variance", "K1", has_variance(all_surveyed, 1023, k1_first, k1_second, 0, 0, 4, 32, 0.125));
+    check("tip_pair_variance", "K2", has_variance(all_surveyed, 1023, k1_first, drifted, 0, 0, 0, 32, 0.0));
+    check("tip_pair_variance", "one frame twice", has_variance(all_surveyed, 1023, k1_first, k1_first, 0, 0, 0, 32, 0.0));
+    check("tip_pair_variance", "refused 2", has_variance(all_surveyed, 4096, k1_first, k1_second, 2, 0, 0, 0, 0.0));
+    check("tip_pair_variance", "refused 5 at 2", has_variance(bad_code, 1023, k1_first, k1_second, 5, 2, 0, 0, 0.0));
+    check("tip_pair_variance", "refused 6 at 3", has_variance(all_surveyed, 103, k1_first, k1_second, 6, 3, 0, 0, 0.0));
+    check("tip_pair_variance", "refused 7", has_variance(one_surveyed, 1023, k1_first, k1_second, 7, 0, 0, 0, 0.0));
+    check("tip_pair_noise", "K1", has_noise(all_surveyed, 1023, k1_first, k1_second, 0, 0, 90, 4, 90.0 / 256.0));
+    check("tip_pair_noise", "K2", has_noise(all_surveyed, 1023, k1_first, drifted, 0, 0, 0, 4, 0.0));
+    check("tip_pair_noise", "refused 6 at 3", has_noise(all_surveyed, 103, k1_first, k1_second, 6, 3, 0, 0, 0.0));
+    check("tip_pair_noise", "refused 7", has_noise(one_surveyed, 1023, k1_first, k1_second, 7, 0, 0, 0, 0.0));
+}
+
 /* ---- all calls ---- */
 
 int main(void)
 {
     static void (*const calls[])(void) = {
         unpack_raw10,
+        pair,
     };
 
     for (size_t i = 0; i < COUNT(calls); i++) calls[i]();

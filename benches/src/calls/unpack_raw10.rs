@@ -1,4 +1,4 @@
-use super::legal;
+use super::window::legal;
 use crate::contest::Contest;
 
 extern "C" {

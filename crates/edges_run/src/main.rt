@@ -1,4 +1,5 @@
 // Document 01's run-only edges: each call is made on both sides of its edge, and what it answers is printed.
+use pair::Noise;
 use raw::Unpacked;
 use window::Refusal;
 
@@ -22,9 +23,45 @@ fn unpack(width: usize, height: usize) {
     }
 }
 
+// The noise of a 2 by 2 window at full scale 1023.
+fn noise(mask: &[u8], first: &[u16], second: &[u16]) {
+    match pair::pair_noise(2, 2, 1023, mask, first, second) {
+        Noise::Figure { noise: _, r, n } => {
+            io::write_all(1, b"r ");
+            io::print_decimal(1, r);
+            io::write_all(1, b" of ");
+            io::print_decimal(1, n);
+            io::write_all(1, b" sites\n");
+        }
+        Noise::Refused(refusal) => refused(refusal),
+    }
+}
+
+fn pairs() {
+    let ramp = [100u16, 101, 102, 103];
+    io::write_all(1, b"full scale 1023 with sample 1023 and 1024\n");
+    noise(&[0u8, 0, 0, 0], &ramp, &[101u16, 101, 102, 1023]);
+    noise(&[0u8, 0, 0, 0], &ramp, &[101u16, 101, 102, 1024]);
+    noise(
+        &[0u8, 0, 0, 0],
+        &[100u16, 101, 102, 1024],
+        &[1024u16, 101, 102, 103],
+    );
+    io::write_all(1, b"1 and 2 surveyed sites\n");
+    noise(&[1u8, 2, 3, 0], &ramp, &[101u16, 101, 102, 104]);
+    noise(&[1u8, 2, 0, 0], &ramp, &[101u16, 101, 102, 104]);
+    io::write_all(1, b"a gap holding 65,535\n");
+    noise(
+        &[0u8, 1, 0, 0],
+        &[100u16, 65535, 102, 103],
+        &[101u16, 65535, 102, 104],
+    );
+}
+
 fn main() {
     io::write_all(1, b"sides 128 and 130\n");
     unpack(128, 128);
     unpack(130, 128);
     unpack(128, 130);
+    pairs();
 }

@@ -30,6 +30,10 @@ impl Dice {
         least + self.draw() % (most - least + 1)
     }
 
+    pub fn one_in(&mut self, turns: usize) -> bool {
+        self.below(turns) == 0
+    }
+
     pub fn among<T: Copy>(&mut self, choices: &[T]) -> T {
         choices[self.below(choices.len())]
     }

@@ -1,10 +1,12 @@
 //! Seeded cases, one maker a call.
 
 mod dice;
+mod pair;
 mod raw;
 mod shapes;
 mod spoil;
 mod tally;
+mod windows;
 
 pub use dice::Dice;
 pub use tally::Tally;
@@ -16,8 +18,21 @@ pub struct Call {
     pub round: fn(&mut Tally, &mut Dice),
 }
 
-pub const CALLS: &[Call] = &[Call {
-    name: "unpack_raw10",
-    required: &[0, 1, 4],
-    round: raw::unpack_raw10,
-}];
+pub const CALLS: &[Call] = &[
+    Call {
+        name: "unpack_raw10",
+        required: &[0, 1, 4],
+        round: raw::unpack_raw10,
+    },
+    // 14 cannot be reached in the pair calls: P is at most (n x full scale)^2, below 2^53.
+    Call {
+        name: "pair_variance",
+        required: &[0, 1, 2, 4, 5, 6, 7],
+        round: pair::pair_variance,
+    },
+    Call {
+        name: "pair_noise",
+        required: &[0, 1, 2, 4, 5, 6, 7],
+        round: pair::pair_noise,
+    },
+];

@@ -65,20 +65,17 @@ pub fn unpack_raw10(tally: &mut Tally, dice: &mut Dice) {
         tally.run(of_shape(shape, dice));
     }
     wrong_lengths(tally, dice);
-    spoil::every_set(
-        tally,
-        dice,
-        legal,
-        &[
-            |case, dice| spoil::length(&mut case.bytes, dice),
-            |case, dice| spoil::length(&mut case.out, dice),
-            |case, dice| spoil::side(&mut case.width, &mut case.height, dice),
-        ],
-    );
+    spoil::every_set(tally, dice, legal, SPOILERS);
     for _ in 0..40 {
         tally.run(legal(dice));
     }
 }
+
+const SPOILERS: &[spoil::Spoiler<Unpack>] = &[
+    |case, dice| spoil::length(&mut case.bytes, dice),
+    |case, dice| spoil::length(&mut case.out, dice),
+    |case, dice| spoil::side(&mut case.width, &mut case.height, dice),
+];
 
 /// K3 and K4.
 fn published(tally: &mut Tally, dice: &mut Dice) {

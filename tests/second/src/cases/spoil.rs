@@ -12,7 +12,7 @@ pub type Spoiler<C> = fn(&mut C, &mut Dice);
 pub fn every_set<C: Case>(
     tally: &mut Tally,
     dice: &mut Dice,
-    make: fn(&mut Dice) -> C,
+    make: impl Fn(&mut Dice) -> C,
     spoilers: &[Spoiler<C>],
 ) {
     for set in 0..1u32 << spoilers.len() {
@@ -51,4 +51,35 @@ pub fn wrong_lengths(right: usize) -> [usize; 6] {
 pub fn length<T: Copy + From<u8>>(buffer: &mut Lent<T>, dice: &mut Dice) {
     let right = buffer.len();
     buffer.resize(dice.among(&wrong_lengths(right)), T::from(0));
+}
+
+/// A mask code above 3.
+pub fn code(mask: &mut [u8], dice: &mut Dice) {
+    let site = dice.below(mask.len());
+    let any = dice.between(4, 255) as u8;
+    mask[site] = dice.among(&[4, 255, any]);
+}
+
+/// A surveyed sample above full scale.
+pub fn sample(mask: &mut [u8], frame: &mut [u16], full_scale: u64, dice: &mut Dice) {
+    let site = dice.below(mask.len());
+    mask[site] = 0;
+    frame[site] = above(full_scale, dice);
+}
+
+/// A sample above a legal full scale.
+pub fn above(full_scale: u64, dice: &mut Dice) -> u16 {
+    let any = dice.between(full_scale + 1, 65535) as u16;
+    dice.among(&[full_scale as u16 + 1, any, 65535])
+}
+
+/// A number above its limit, at times with legal low bits.
+pub fn beyond(limit: u64, dice: &mut Dice) -> u64 {
+    let wide = (dice.between(1, 1 << 30) << 32) + dice.between(0, limit);
+    dice.among(&[limit + 1, u64::MAX, 1 << 32, wide])
+}
+
+pub fn full_scale(dice: &mut Dice) -> u64 {
+    let high = beyond(4095, dice);
+    dice.among(&[0, 4096, high])
 }

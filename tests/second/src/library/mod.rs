@@ -2,6 +2,7 @@
 //! Every buffer is lent as writable memory, so that a write to a read-only one is seen.
 
 mod lent;
+pub mod pair;
 pub mod raw;
 
 pub use lent::Lent;

@@ -58,6 +58,42 @@ pub fn check_lengths(lengths: &[(usize, usize)]) -> Result<(), Refusal> {
     refuse_if(lengths.iter().any(|(lent, needed)| lent != needed), 4)
 }
 
+/// Refusal 2.
+pub fn check_full_scale(full_scale: u64) -> Result<(), Refusal> {
+    refuse_if(!(1..=4095).contains(&full_scale), 2)
+}
+
+/// Refusal 5, at the first code above 3.
+pub fn check_codes(mask: &[u8]) -> Result<(), Refusal> {
+    for (site, &code) in mask.iter().enumerate() {
+        if code > 3 {
+            return Err(Refusal {
+                number: 5,
+                place: site as u64,
+            });
+        }
+    }
+    Ok(())
+}
+
+/// Refusal 6, at the first surveyed sample above full scale.
+pub fn check_samples(mask: &[u8], frame: &[u16], full_scale: u64) -> Result<(), Refusal> {
+    for site in surveyed(mask) {
+        if u64::from(frame[site]) > full_scale {
+            return Err(Refusal {
+                number: 6,
+                place: site as u64,
+            });
+        }
+    }
+    Ok(())
+}
+
+/// The sites of code 0, in row order.
+pub fn surveyed(mask: &[u8]) -> impl Iterator<Item = usize> + '_ {
+    (0..mask.len()).filter(|&site| mask[site] == 0)
+}
+
 #[cfg(test)]
 mod tests {
     use super::*;
@@ -113,6 +149,46 @@ mod tests {
                 place: 3,
                 figures: vec![0, 0]
             }
+        );
+    }
+
+    #[test]
+    fn full_scale_on_both_sides_of_each_limit() {
+        for full_scale in [1, 4095] {
+            assert_eq!(check_full_scale(full_scale), Ok(()));
+        }
+        for full_scale in [0, 4096, u64::MAX] {
+            assert_eq!(
+                check_full_scale(full_scale),
+                Err(Refusal {
+                    number: 2,
+                    place: 0
+                })
+            );
+        }
+    }
+
+    #[test]
+    fn only_surveyed_samples_are_judged() {
+        let mask = [1, 0, 3, 0];
+        assert_eq!(
+            check_samples(&mask, &[65535, 1023, 65535, 1023], 1023),
+            Ok(())
+        );
+        let above = check_samples(&mask, &[65535, 1023, 65535, 1024], 1023);
+        assert_eq!(
+            above,
+            Err(Refusal {
+                number: 6,
+                place: 3
+            })
+        );
+        assert_eq!(
+            check_codes(&[3, 0, 4, 255]),
+            Err(Refusal {
+                number: 5,
+                place: 2
+            })
         );
     }
 }

@@ -1,0 +1,210 @@
+use super::window::{accepted, codes, frame, mask, samples, shape, Refusal, ACCEPTED};
+use crate::contest::Contest;
+
+extern "C" {
+    fn tip_pair_variance(
+        width: usize,
+        height: usize,
+        full_scale: u64,
+        mask: *const u8,
+        mask_len: usize,
+        first: *const u16,
+        first_len: usize,
+        second: *const u16,
+        second_len: usize,
+        place: *mut u64,
+        p: *mut u64,
+        q: *mut u64,
+        variance: *mut f64,
+    ) -> u64;
+    fn tip_pair_noise(
+        width: usize,
+        height: usize,
+        full_scale: u64,
+        mask: *const u8,
+        mask_len: usize,
+        first: *const u16,
+        first_len: usize,
+        second: *const u16,
+        second_len: usize,
+        place: *mut u64,
+        r: *mut u64,
+        n: *mut u64,
+        noise: *mut f64,
+    ) -> u64;
+}
+
+pub struct Input {
+    width: usize,
+    height: usize,
+    full_scale: u64,
+    mask: Vec<u8>,
+    first: Vec<u16>,
+    second: Vec<u16>,
+}
+
+/// The refusal, two whole numbers and a float: P, Q and the variance, or r, n and the noise.
+#[derive(Debug, PartialEq)]
+pub struct Output {
+    number: u64,
+    place: u64,
+    whole: [u64; 2],
+    figure: f64,
+}
+
+pub fn variance() -> Contest<Input, Output> {
+    contest("tip_pair_variance", library_variance, plain_variance)
+}
+
+pub fn noise() -> Contest<Input, Output> {
+    contest("tip_pair_noise", library_noise, plain_noise)
+}
+
+fn contest(
+    call: &'static str,
+    library: fn(&Input, &mut Output),
+    plain: fn(&Input, &mut Output),
+) -> Contest<Input, Output> {
+    Contest {
+        call,
+        inputs: vec![
+            ("128 x 128", input(128, 1023, |_| {})),
+            ("refused 2", input(128, 4096, |_| {})),
+            ("refused 5", input(128, 1023, |case| case.mask[500] = 4)),
+            ("refused 6", input(128, 500, |_| {})),
+            ("refused 7", input(2, 1023, |case| case.mask.fill(1))),
+            ("2 x 2", input(2, 1023, |_| {})),
+        ],
+        lent: |_| Output {
+            number: 77,
+            place: 77,
+            whole: [77; 2],
+            figure: 77.0,
+        },
+        library,
+        plain: vec![("indexed", plain)],
+    }
+}
+
+fn input(side: usize, full_scale: u64, spoil: fn(&mut Input)) -> Input {
+    let sites = side * side;
+    let mut case = Input {
+        width: side,
+        height: side,
+        full_scale,
+        mask: mask(sites),
+        first: frame(sites, 0),
+        second: frame(sites, 1),
+    };
+    spoil(&mut case);
+    case
+}
+
+fn library_variance(input: &Input, output: &mut Output) {
+    let [p, q] = &mut output.whole;
+    // SAFETY: the pointers come from borrows, so they are aligned and nothing that is written overlaps.
+    output.number = unsafe {
+        tip_pair_variance(
+            input.width,
+            input.height,
+            input.full_scale,
+            input.mask.as_ptr(),
+            input.mask.len(),
+            input.first.as_ptr(),
+            input.first.len(),
+            input.second.as_ptr(),
+            input.second.len(),
+            &mut output.place,
+            p,
+            q,
+            &mut output.figure,
+        )
+    };
+}
+
+fn library_noise(input: &Input, output: &mut Output) {
+    let [r, n] = &mut output.whole;
+    // SAFETY: as above.
+    output.number = unsafe {
+        tip_pair_noise(
+            input.width,
+            input.height,
+            input.full_scale,
+            input.mask.as_ptr(),
+            input.mask.len(),
+            input.first.as_ptr(),
+            input.first.len(),
+            input.second.as_ptr(),
+            input.second.len(),
+            &mut output.place,
+            r,
+            n,
+            &mut output.figure,
+        )
+    };
+}
+
+/// n and P, or the refusal. The difference is taken at 16 bits, squared at 32 and chosen after it is computed.
+fn spread(input: &Input) -> Result<(u64, u64), Refusal> {
+    let lengths = [input.mask.len(), input.first.len(), input.second.len()];
+    let (mask, first, second) = (&input.mask[..], &input.first[..], &input.second[..]);
+    accepted(shape(
+        input.width,
+        input.height,
+        input.full_scale,
+        false,
+        &lengths,
+    ))?;
+    accepted(codes(mask))?;
+    accepted(samples(input.full_scale, mask, first))?;
+    accepted(samples(input.full_scale, mask, second))?;
+    let (mut n, mut a, mut b, mut squares) = (0u64, 0u64, 0u64, 0u64);
+    for i in 0..mask.len() {
+        let surveyed = mask[i] == 0;
+        let d = first[i].abs_diff(second[i]) as u32;
+        n += u64::from(surveyed);
+        a += if surveyed { first[i] as u64 } else { 0 };
+        b += if surveyed { second[i] as u64 } else { 0 };
+        squares += if surveyed { (d * d) as u64 } else { 0 };
+    }
+    if n < 2 {
+        return Err((7, 0));
+    }
+    let d = a.abs_diff(b);
+    let p = n * squares - d * d;
+    if p >= 1 << 53 {
+        return Err((14, 0));
+    }
+    Ok((n, p))
+}
+
+fn give(output: &mut Output, refusal: Refusal, whole: [u64; 2], figure: f64) {
+    *output = Output {
+        number: refusal.0,
+        place: refusal.1,
+        whole,
+        figure,
+    };
+}
+
+#[inline(never)]
+fn plain_variance(input: &Input, output: &mut Output) {
+    match spread(input) {
+        Err(refusal) => give(output, refusal, [0; 2], 0.0),
+        Ok((n, p)) => {
+            let q = 2 * n * n;
+            give(output, ACCEPTED, [p, q], p as f64 / q as f64)
+        }
+    }
+}
+
+#[inline(never)]
+fn plain_noise(input: &Input, output: &mut Output) {
+    match spread(input) {
+        Err(refusal) => give(output, refusal, [0; 2], 0.0),
+        Ok((n, p)) => {
+            let r = (2048 * p).isqrt();
+            give(output, ACCEPTED, [r, n], r as f64 / (64 * n) as f64)
+        }
+    }
+}

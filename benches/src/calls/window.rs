@@ -1,0 +1,75 @@
+//! What the calls on a window share in plain Rust: the refusals of sides, scale, lengths, codes and samples, and
+//! windows to time them on.
+
+/// Refusal 1 of document 01: a side is odd or not in 2..128.
+pub fn legal(side: usize) -> bool {
+    side % 2 == 0 && (2..=128).contains(&side)
+}
+
+/// The number and the place of a refusal; 0 and 0 where nothing is refused.
+pub type Refusal = (u64, u64);
+
+pub const ACCEPTED: Refusal = (0, 0);
+
+pub fn accepted(found: Refusal) -> Result<(), Refusal> {
+    if found == ACCEPTED {
+        Ok(())
+    } else {
+        Err(found)
+    }
+}
+
+/// Refusals 1 to 4: `other` where another parameter is out of range, and the lengths that should be the window's.
+pub fn shape(
+    width: usize,
+    height: usize,
+    full_scale: u64,
+    other: bool,
+    lengths: &[usize],
+) -> Refusal {
+    if !legal(width) || !legal(height) {
+        return (1, 0);
+    }
+    if !(1..=4095).contains(&full_scale) {
+        return (2, 0);
+    }
+    if other {
+        return (3, 0);
+    }
+    if lengths.iter().any(|&long| long != width * height) {
+        return (4, 0);
+    }
+    ACCEPTED
+}
+
+/// Refusal 5: the first code above 3.
+pub fn codes(mask: &[u8]) -> Refusal {
+    for i in 0..mask.len() {
+        if mask[i] > 3 {
+            return (5, i as u64);
+        }
+    }
+    ACCEPTED
+}
+
+/// Refusal 6: the first surveyed sample above full scale.
+pub fn samples(full_scale: u64, mask: &[u8], frame: &[u16]) -> Refusal {
+    for i in 0..mask.len() {
+        if mask[i] == 0 && full_scale < frame[i] as u64 {
+            return (6, i as u64);
+        }
+    }
+    ACCEPTED
+}
+
+/// A mask with one gap in 32 sites.
+pub fn mask(sites: usize) -> Vec<u8> {
+    (0..sites).map(|i| u8::from(i % 32 == 7)).collect()
+}
+
+/// A frame around 512, of 10 bits, with a pattern of its own for each seed.
+pub fn frame(sites: usize, seed: usize) -> Vec<u16> {
+    (0..sites)
+        .map(|i| 480 + ((i * 37 + i / 128 * 11 + seed * 29) % 64) as u16)
+        .collect()
+}

@@ -1,0 +1,283 @@
+//! Cases of the pair variance and the pair noise; both run the same ones.
+
+use reference::pair;
+use reference::shared::Answer;
+
+use super::dice::Dice;
+use super::shapes::{self, Shape};
+use super::spoil;
+use super::tally::{Case, Tally};
+use super::windows;
+use crate::library::{self, Lent};
+
+#[derive(Clone, Copy, Debug, PartialEq)]
+enum Figure {
+    Variance,
+    Noise,
+}
+
+#[derive(Clone, Debug, PartialEq)]
+struct Pair {
+    figure: Figure,
+    width: usize,
+    height: usize,
+    full_scale: u64,
+    mask: Lent<u8>,
+    first: Lent<u16>,
+    /// None where the first buffer is given twice.
+    second: Option<Lent<u16>>,
+}
+
+impl Case for Pair {
+    fn reference(&mut self) -> Answer {
+        let pair = pair::Pair {
+            width: self.width,
+            height: self.height,
+            full_scale: self.full_scale,
+            mask: &self.mask,
+            first: &self.first,
+            second: self.second.as_ref().unwrap_or(&self.first),
+        };
+        match self.figure {
+            Figure::Variance => pair::pair_variance(&pair),
+            Figure::Noise => pair::pair_noise(&pair),
+        }
+    }
+
+    fn library(&mut self) -> Answer {
+        let pair = library::pair::Pair {
+            width: self.width,
+            height: self.height,
+            full_scale: self.full_scale,
+            mask: &mut self.mask,
+            first: &mut self.first,
+            second: self.second.as_mut(),
+        };
+        match self.figure {
+            Figure::Variance => library::pair::pair_variance(pair),
+            Figure::Noise => library::pair::pair_noise(pair),
+        }
+    }
+}
+
+impl Pair {
+    fn second(&mut self) -> &mut Lent<u16> {
+        self.second.as_mut().expect("a second frame of its own")
+    }
+}
+
+pub fn pair_variance(tally: &mut Tally, dice: &mut Dice) {
+    round(Figure::Variance, tally, dice);
+}
+
+pub fn pair_noise(tally: &mut Tally, dice: &mut Dice) {
+    round(Figure::Noise, tally, dice);
+}
+
+fn of_mask(figure: Figure, shape: Shape, mask: Vec<u8>, dice: &mut Dice) -> Pair {
+    let full_scale = windows::full_scale(dice);
+    let first = windows::frame(&mask, full_scale, dice);
+    let second = windows::frame(&mask, full_scale, dice);
+    Pair {
+        figure,
+        width: shape.width,
+        height: shape.height,
+        full_scale,
+        mask: Lent::new("mask", mask),
+        first: Lent::new("first", first),
+        second: Some(Lent::new("second", second)),
+    }
+}
+
+fn of_shape(figure: Figure, shape: Shape, dice: &mut Dice) -> Pair {
+    let mask = windows::mask(shape.sites(), dice);
+    of_mask(figure, shape, mask, dice)
+}
+
+fn legal(figure: Figure, dice: &mut Dice) -> Pair {
+    of_shape(figure, shapes::legal(dice), dice)
+}
+
+/// Two frames of a fully surveyed 2 x 2 window.
+fn of_four(figure: Figure, full_scale: u64, first: [u16; 4], second: [u16; 4]) -> Pair {
+    Pair {
+        figure,
+        width: 2,
+        height: 2,
+        full_scale,
+        mask: Lent::new("mask", vec![0; 4]),
+        first: Lent::new("first", first.to_vec()),
+        second: Some(Lent::new("second", second.to_vec())),
+    }
+}
+
+fn round(figure: Figure, tally: &mut Tally, dice: &mut Dice) {
+    published(figure, tally);
+    tied_frames(figure, tally, dice);
+    full_swing(figure, tally, dice);
+    few_surveyed(figure, tally, dice);
+    scales(figure, tally, dice);
+    samples_above(figure, tally, dice);
+    codes_above(figure, tally, dice);
+    wrong_lengths(figure, tally, dice);
+    for shape in shapes::illegal() {
+        tally.run(of_shape(figure, shape, dice));
+    }
+    spoil::every_set(tally, dice, |dice| legal(figure, dice), SPOILERS);
+    for _ in 0..60 {
+        tally.run(legal(figure, dice));
+    }
+    for &shape in shapes::GREAT {
+        tally.run(of_shape(figure, shape, dice));
+    }
+}
+
+const SPOILERS: &[spoil::Spoiler<Pair>] = &[
+    |case, dice| {
+        let count = dice.below(2);
+        let sites = case.mask.len();
+        case.mask = Lent::new("mask", windows::mask_surveying(count, sites, dice));
+    },
+    |case, dice| spoil::sample(&mut case.mask, &mut case.first, case.full_scale, dice),
+    |case, dice| {
+        let second = case.second.as_mut().expect("a second frame");
+        spoil::sample(&mut case.mask, second, case.full_scale, dice);
+    },
+    |case, dice| spoil::code(&mut case.mask, dice),
+    |case, dice| match dice.below(3) {
+        0 => spoil::length(&mut case.mask, dice),
+        1 => spoil::length(&mut case.first, dice),
+        _ => spoil::length(case.second(), dice),
+    },
+    |case, dice| case.full_scale = spoil::full_scale(dice),
+    |case, dice| spoil::side(&mut case.width, &mut case.height, dice),
+];
+
+/// K1 and K2.
+fn published(figure: Figure, tally: &mut Tally) {
+    let first = [100, 101, 102, 103];
+    tally.run(of_four(figure, 1023, first, [101, 101, 102, 104]));
+    tally.run(of_four(figure, 1023, first, first.map(|sample| sample + 7)));
+}
+
+/// A lamp drift, equal frames, and one buffer given twice.
+fn tied_frames(figure: Figure, tally: &mut Tally, dice: &mut Dice) {
+    for _ in 0..8 {
+        let mut drift = legal(figure, dice);
+        drift.full_scale = 4095;
+        for site in 0..drift.mask.len() {
+            drift.first[site] = dice.between(0, 4088) as u16;
+            drift.second()[site] = drift.first[site] + 7;
+        }
+        tally.run(drift.clone());
+        drift.second = Some(Lent::new("second", drift.first.to_vec()));
+        tally.run(drift.clone());
+        drift.second = None;
+        tally.run(drift.clone());
+        spoil::sample(&mut drift.mask, &mut drift.first, 4095, dice);
+        tally.run(drift);
+    }
+}
+
+/// The greatest differences, from one-sided (P 0) to balanced (the greatest P).
+fn full_swing(figure: Figure, tally: &mut Tally, dice: &mut Dice) {
+    for shape in [shapes::GREAT[0], shapes::legal(dice)] {
+        for turns in [1, 2, 3, 64] {
+            let mut swing = of_mask(figure, shape, vec![0; shape.sites()], dice);
+            swing.full_scale = 4095;
+            for site in 0..shape.sites() {
+                let up = site % turns == 0;
+                swing.first[site] = if up { 0 } else { 4095 };
+                swing.second()[site] = if up { 4095 } else { 0 };
+            }
+            tally.run(swing);
+        }
+    }
+}
+
+fn few_surveyed(figure: Figure, tally: &mut Tally, dice: &mut Dice) {
+    for count in 0..4 {
+        for shape in [
+            Shape {
+                width: 2,
+                height: 2,
+            },
+            shapes::legal(dice),
+            shapes::GREAT[0],
+        ] {
+            let mask = windows::mask_surveying(count, shape.sites(), dice);
+            tally.run(of_mask(figure, shape, mask, dice));
+        }
+    }
+}
+
+/// Each full scale, with samples at most 1 and with random ones.
+fn scales(figure: Figure, tally: &mut Tally, dice: &mut Dice) {
+    for &full_scale in windows::FULL_SCALES {
+        tally.run(of_four(figure, full_scale, [0, 1, 0, 1], [1, 1, 0, 0]));
+        let mut case = legal(figure, dice);
+        case.full_scale = full_scale;
+        tally.run(case);
+    }
+}
+
+/// Full scale and one above it at each pair of places, at surveyed sites and in gaps.
+fn samples_above(figure: Figure, tally: &mut Tally, dice: &mut Dice) {
+    for full_scale in [1u16, 10, 1023, 4095] {
+        for excess in [0, 1] {
+            for in_first in 0..5 {
+                for in_second in 0..5 {
+                    let (mut first, mut second) = ([0; 5], [0; 5]);
+                    first[in_first] = full_scale + excess;
+                    second[in_second] = full_scale + excess;
+                    // The fifth place stands for no such sample in that frame.
+                    let case = of_four(
+                        figure,
+                        full_scale.into(),
+                        [first[0], first[1], first[2], first[3]],
+                        [second[0], second[1], second[2], second[3]],
+                    );
+                    tally.run(case.clone());
+                    let mut gap = case;
+                    gap.mask[dice.below(4)] = dice.between(1, 3) as u8;
+                    tally.run(gap);
+                }
+            }
+        }
+    }
+}
+
+/// Every code at every site, with a sample above full scale before, at or after it.
+fn codes_above(figure: Figure, tally: &mut Tally, dice: &mut Dice) {
+    for code in [0, 1, 2, 3, 4, 5, 127, 128, 254, 255] {
+        for site in 0..4 {
+            let mut case = of_four(figure, 1023, [0, 1, 2, 3], [3, 2, 1, 0]);
+            case.mask[site] = code;
+            tally.run(case.clone());
+            case.second()[dice.below(4)] = 1024;
+            tally.run(case);
+        }
+    }
+}
+
+fn wrong_lengths(figure: Figure, tally: &mut Tally, dice: &mut Dice) {
+    for shape in [
+        Shape {
+            width: 2,
+            height: 2,
+        },
+        shapes::legal(dice),
+        shapes::GREAT[0],
+    ] {
+        for length in spoil::wrong_lengths(shape.sites()) {
+            let case = of_shape(figure, shape, dice);
+            let (mut mask, mut first, mut second) = (case.clone(), case.clone(), case);
+            mask.mask.resize(length, 0);
+            first.first.resize(length, 0);
+            second.second().resize(length, 0);
+            for case in [mask, first, second] {
+                tally.run(case);
+            }
+        }
+    }
+}
