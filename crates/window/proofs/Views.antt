@@ -6,6 +6,8 @@ use mathlib.Core.Path.{_≡_, refl, fun-ext}
 use native.Mathlib.Omega.{arith}
 use lib.ListN.{length, getD}
 use borrow.Author.Tests.{eq-eqb, ne-eqb}
+use Rattle.laws.specs.Sum.{sumTo}
+use Rattle.laws.proofs.Sums.{sum-le}
 use Rattle.window.specs.View.{surveyed, seenAt, seen, one}
 
 module _ (code value : ℕ) where
@@ -36,6 +38,10 @@ one-is mask i = refl
 
 pub one-le : (mask : List ℕ) (i : ℕ) → one mask i ≤ 1
 one-le mask i = rw one-is (seen-le (getD mask i 0) 1 1 (omega arith))
+
+-- no more sites are surveyed than there are
+pub surveyed-few : (mask : List ℕ) (n : ℕ) → sumTo n (one mask) ≤ n
+surveyed-few mask n = omega (arith, sum-le n 1 (one mask) (λ i l. one-le mask i))
 
 -- two frames of one length that hold the same at every surveyed site
 pub record Agree (mask f g : List ℕ) : Type 0 where

@@ -3,7 +3,7 @@ ghost use mathlib.Core.Path.{_≡_};
 ghost use Prim.Native.Nat.{ℕ, _+_, _*_, _/_, _≤_, _<_, min};
 ghost use lib.ListN.{length};
 ghost use Rattle.laws.specs.First.{firstTo};
-ghost use Rattle.laws.specs.Sum.{sumIn, sumBox};
+ghost use Rattle.laws.specs.Sum.{sumTo, sumIn, sumBox};
 ghost use Rattle.window.specs.Shape.{badSide, badSides, badScale, sitesOf};
 ghost use Rattle.window.specs.View.{badCode, seenAt, seen, one, above};
 ghost use Rattle.window.specs.Verdict.{_⨟_, refuseIf};
@@ -89,6 +89,23 @@ pub fn seen_at(code: u8, sample: u16) -> u16
     ensures { λ r. ⌜ r ≡ seenAt code sample ⌝ }
 {
     if code == 0 { sample } else { 0 }
+}
+
+fn one_at(code: u8) -> u32
+    ensures { λ r. ⌜ (r ≡ seenAt code 1) × (r ≤ 1) ⌝ }
+{
+    if code == 0 { 1 } else { 0 }
+}
+
+// How many sites are surveyed.
+pub fn surveyed(mask: &[u8]) -> u64
+    ensures { λ r. ⌜ r ≡ sumTo (length (now (mask .entry))) (one (now (mask .entry))) ⌝ }
+{
+    let mut count: u64 = 0;
+    for i in 0..mask.len() {
+        count += one_at(mask[i]) as u64;
+    }
+    count
 }
 
 // The first site in row order whose code is above 3, or the number of sites.
@@ -178,12 +195,6 @@ pub struct PlaneBox {
 pub struct Sums {
     pub count: u64,
     pub total: u64,
-}
-
-fn one_at(code: u8) -> u32
-    ensures { λ r. ⌜ (r ≡ seenAt code 1) × (r ≤ 1) ⌝ }
-{
-    if code == 0 { 1 } else { 0 }
 }
 
 fn sample_at(code: u8, sample: u16) -> u32
