@@ -4,7 +4,7 @@ use mathlib.Core.Logic.{⊎-elim}
 use mathlib.Core.Path.{_≡_, sym, _∙_}
 use native.Mathlib.Omega.{arith}
 use lib.Dec.{ltb}
-use lib.IntN.{pos, _+ℤ_, _-ℤ_, _*ℤ_}
+use lib.IntN.{ℤ, pos, _+ℤ_, _-ℤ_, _*ℤ_}
 use lib.Signed.{ltZ}
 use mir.Syntax.{w64}
 use mir.Val.{SFits, toZ, ofZ}
@@ -32,6 +32,10 @@ pub record Is (x a b : ℕ) : Type 0 where
 
 pub nat-is : (n : ℕ) → n < 2 ^ 63 → Is n n 0
 nat-is n h = record { val = toZ-ofZ {w = w64} {z = pos n} (nat-fits n h) ∙ sym (⊖-zero n); up = h; down = omega arith }
+
+-- a signed number as it is laid down
+pub laid-is : (z : ℤ) (a b : ℕ) → z ≡ a ⊖ b → a < 2 ^ 63 → b < 2 ^ 63 → Is (ofZ w64 z) a b
+laid-is z a b e p q = record { val = toZ-ofZ (rw e (⊖-fits a b p q)) ∙ e; up = p; down = q }
 
 -- the same number by two other parts
 pub is-as : {x a b : ℕ} (c d : ℕ) → Is x a b → a + d ≡ c + b → c < 2 ^ 63 → d < 2 ^ 63 → Is x c d

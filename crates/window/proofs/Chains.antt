@@ -9,13 +9,19 @@ use lib.ListN.{length, getD}
 use borrow.Author.Tests.{eqb-true, ltb-false, not-false}
 use Rattle.laws.specs.First.{firstTo}
 use Rattle.laws.proofs.Firsts.{first-nowhere}
-use Rattle.window.specs.Shape.{sitesOf}
+use Rattle.window.specs.Shape.{badSides, badScale, sitesOf}
 use Rattle.window.specs.View.{badCode, above, seen}
 use Rattle.window.specs.Verdict.{_⨟_, refuseIf}
-use Rattle.window.specs.Judge.{otherThan, codesOf, samplesOf, walked}
+use Rattle.window.specs.Judge.{shapeOf, otherThan, codesOf, samplesOf, walked}
 use Rattle.window.specs.declared.Verdict.{Verdict}
-use Rattle.window.proofs.Verdicts.{then-same, unless}
+use Rattle.window.proofs.Verdicts.{then-same, then-assoc, unless}
 use Rattle.window.proofs.Walks.{walked-whole}
+
+-- 1 and 2 come first
+pub shape-then : (w h full : ℕ) (v : Verdict)
+    → shapeOf w h full ⨟ v ≡ refuseIf 1 0 (badSides w h) ⨟ (refuseIf 2 0 (badScale full) ⨟ v)
+unfolding shapeOf
+shape-then w h full v = then-assoc (refuseIf 1 0 (badSides w h)) (refuseIf 2 0 (badScale full)) v
 
 -- 4 does not apply: the length is the one needed
 pub same-length : (needed long : ℕ) → otherThan needed long ≡ false → long ≡ needed

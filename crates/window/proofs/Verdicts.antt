@@ -2,7 +2,7 @@
 use Prim.Native.Nat.{ℕ, _<_}
 use mathlib.Core.Bool.{Bool, true, false, _&&_}
 use mathlib.Core.List.{List, [], _∷_}
-use mathlib.Core.Path.{_≡_, refl, sym, ap, _∙_, subst₂}
+use mathlib.Core.Path.{_≡_, refl, sym, ap, ap₂, _∙_, subst₂}
 use native.Mathlib.Omega.{arith}
 use lib.Dec.{ltb}
 use borrow.Author.Tests.{ltb-true}
@@ -22,6 +22,10 @@ pub then-same : (a : Verdict) {b d : Verdict} → (a ≡ Clear → b ≡ d) → 
 unfolding _⨟_
 then-same Clear f = f refl
 then-same (Refused r) f = refl
+
+-- what `then` answers of two verdicts that are known
+pub then-of : {r a b a′ b′ : Verdict} → r ≡ a ⨟ b → a ≡ a′ → b ≡ b′ → r ≡ a′ ⨟ b′
+then-of e p q = e ∙ ap₂ (λ (x y : Verdict). x ⨟ y) p q
 
 pub then-clear : (a b : Verdict) → a ⨟ b ≡ Clear → (a ≡ Clear) × (b ≡ Clear)
 unfolding _⨟_

@@ -1,0 +1,65 @@
+-- What is promised of `dark_level`, for any sides, full scale, black level, mask and frame.
+use Prim.Native.Nat.{ℕ, _*_, _<_}
+use mathlib.Core.List.{List}
+use mathlib.Core.Path.{_≡_, refl, sym, ap, _∙_}
+use native.Mathlib.Omega.{arith}
+use lib.Dec.{ltb}
+use lib.IntN.{ℤ, pos}
+use lib.Signed.{ltZ}
+use Rattle.laws.specs.Sum.{sumTo}
+use Rattle.laws.specs.Signed.{_⊖_}
+use Rattle.laws.proofs.Signeds.{⊖-below, ⊖-self, ⊖-cross}
+use Rattle.window.specs.Shape.{sitesOf}
+use Rattle.window.specs.View.{seen, one}
+use Rattle.window.proofs.Verdicts.{Tabled, Refuses, refuses}
+use Rattle.window.proofs.Views.{Agree, same-view}
+use Rattle.dark.specs.Dark.{aboveBlack, darkVerdict, darkAnswer, darkPaper}
+use Rattle.dark.specs.declared.Dark.{Dark}
+use Rattle.dark.specs.declared.Dark.the-variants.{Level}
+use Rattle.dark.proofs.Levels.{tests, table, accepted, level-is}
+
+module _ (w h full black : ℕ) (mask frame : List ℕ) where
+  -- only: no second answer meets the promise
+  pub only : (a b : Dark) → a ≡ darkAnswer w h full black mask frame → b ≡ darkAnswer w h full black mask frame → a ≡ b
+  only a b p q = p ∙ sym q
+
+  -- given: 1 to 7 exactly as document 01 tables them, in that order (`tests` has the table)
+  pub given : Tabled (darkVerdict w h full black mask frame) (tests w h full black mask frame)
+  given = table w h full black mask frame
+
+  -- refused: where the number is not 0 the other two numbers are 0, and where it is 0 so is the place
+  pub refused : Refuses (darkPaper w h full black mask frame .number) (darkPaper w h full black mask frame .place)
+      ((darkPaper w h full black mask frame .numerator ≡ pos 0) × (darkPaper w h full black mask frame .denominator ≡ 0))
+  unfolding darkPaper
+  refused = refuses (darkVerdict w h full black mask frame) given refl (λ r e. rw e (refl, refl))
+
+  -- blind: what another frame holds at unsurveyed sites changes nothing
+  pub blind : (other : List ℕ) → Agree mask frame other → darkAnswer w h full black mask frame ≡ darkAnswer w h full black mask other
+  unfolding darkAnswer darkVerdict
+  blind other a = rw (a .long, same-view a)
+
+  -- of an accepted call with the level a / n
+  module _ (a : ℤ) (n : ℕ) (answer : darkAnswer w h full black mask frame ≡ Level a n) where
+    -- n counts the surveyed sites, of which there are some
+    pub counts : (n ≡ sumTo (sitesOf w h) (one mask)) × (0 < n)
+    counts =
+        let told = level-is w h full black mask frame a n answer in
+        (told .1 .1, rw (told .1 .1) (accepted w h full black mask frame (told .0) .some))
+
+    level : a ≡ sumTo (sitesOf w h) (seen mask frame) ⊖ black * n
+    unfolding aboveBlack
+    level =
+        let told = level-is w h full black mask frame a n answer in
+        told .1 .0 ∙ ap (λ (m : ℕ). sumTo (sitesOf w h) (seen mask frame) ⊖ black * m) (sym (told .1 .1))
+
+    -- the level is negative exactly where the mean of the surveyed samples is below the black level: their sum below black level × n
+    pub negative : ltZ a (pos 0) ≡ ltb (sumTo (sitesOf w h) (seen mask frame)) (black * n)
+    negative = rw level (⊖-below (sumTo (sitesOf w h) (seen mask frame)) (black * n))
+
+    -- and 0 exactly where the mean is the black level
+    pub zero-at : sumTo (sitesOf w h) (seen mask frame) ≡ black * n → a ≡ pos 0
+    zero-at e = level ∙ ap (λ (s : ℕ). s ⊖ black * n) e ∙ ⊖-self (black * n)
+
+    pub zero-only : a ≡ pos 0 → sumTo (sitesOf w h) (seen mask frame) ≡ black * n
+    zero-only e =
+        omega (arith, ⊖-cross (sumTo (sitesOf w h) (seen mask frame)) (black * n) (black * n) (black * n) (sym level ∙ e ∙ sym (⊖-self (black * n))))
