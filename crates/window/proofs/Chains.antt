@@ -14,7 +14,9 @@ use Rattle.window.specs.View.{badCode, above, seen}
 use Rattle.window.specs.Verdict.{_⨟_, refuseIf}
 use Rattle.window.specs.Judge.{shapeOf, otherThan, codesOf, samplesOf, walked}
 use Rattle.window.specs.declared.Verdict.{Verdict}
-use Rattle.window.proofs.Verdicts.{then-same, then-assoc, unless}
+use Rattle.window.specs.declared.Verdict.the-variants.{Clear}
+use Rattle.window.proofs.Sides.{Sides, Scale, sides, scale}
+use Rattle.window.proofs.Verdicts.{then-same, then-assoc, then-clear, unless}
 use Rattle.window.proofs.Walks.{walked-whole}
 
 -- 1 and 2 come first
@@ -22,6 +24,13 @@ pub shape-then : (w h full : ℕ) (v : Verdict)
     → shapeOf w h full ⨟ v ≡ refuseIf 1 0 (badSides w h) ⨟ (refuseIf 2 0 (badScale full) ⨟ v)
 unfolding shapeOf
 shape-then w h full v = then-assoc (refuseIf 1 0 (badSides w h)) (refuseIf 2 0 (badScale full)) v
+
+-- 1 and 2 do not apply: the sides and the full scale are legal
+pub shape-clear : (w h full : ℕ) → shapeOf w h full ≡ Clear → Sides w h × Scale full
+unfolding shapeOf
+shape-clear w h full e =
+    let both = then-clear (refuseIf 1 0 (badSides w h)) (refuseIf 2 0 (badScale full)) e in
+    (sides w h (unless 1 0 (badSides w h) (both .0)), scale full (unless 2 0 (badScale full) (both .1)))
 
 -- 4 does not apply: the length is the one needed
 pub same-length : (needed long : ℕ) → otherThan needed long ≡ false → long ≡ needed

@@ -1,0 +1,160 @@
+-- The verdict on a frame that is offered, and what it makes of the answer and the sums.
+use Prim.Native.Nat.{ℕ, min, _+_, _*_, _^_, _≤_, _<_}
+use mathlib.Core.Bool.{Bool, true, false, _&&_}
+use mathlib.Core.List.{List, [], _∷_}
+use mathlib.Core.Path.{_≡_, refl, sym, ap, _∙_}
+use native.Mathlib.Omega.{arith}
+use lib.Dec.{eqb, ltb}
+use lib.ListN.{length, getD}
+use mir.Syntax.{w32}
+use mir.Val.{Fits}
+use borrow.Author.Tests.{ltb-false, eqb-false}
+use Rattle.laws.specs.First.{firstTo}
+use Rattle.laws.proofs.Cases.{times-le}
+use Rattle.laws.proofs.Firsts.{first-nowhere}
+use Rattle.window.specs.Shape.{badSides, badScale, sitesOf}
+use Rattle.window.specs.View.{badCode, above, seenAt, seen}
+use Rattle.window.specs.Verdict.{_⨟_, refuseIf, refuseFirst}
+use Rattle.window.specs.Judge.{shapeOf, otherThan, codesOf, samplesOf, walked}
+use Rattle.window.specs.declared.Refusal.{Refusal}
+use Rattle.window.specs.declared.Verdict.{Verdict}
+use Rattle.window.specs.declared.Verdict.the-variants as verdict
+use Rattle.window.proofs.Sides.{scale, sites-few}
+use Rattle.window.proofs.Verdicts.{Test, Tabled, test, testFirst, tabled, passed-head, passed-tail, then-same, unless}
+use Rattle.window.proofs.Views.{seen-is, seen-out}
+use Rattle.window.proofs.Chains.{shape-then, shape-clear, same-length, in-range, measured, codes-whole, samples-whole}
+use Rattle.stack.specs.Sums.{impossible, impossibleAt, impossibleIn, squared, added, readable}
+use Rattle.stack.specs.Add.{addVerdict, counted, addAnswer, addPaperOf, addPaper, addSums, addSquares}
+use Rattle.stack.specs.declared.Added.the-variants.{Frames, Refused}
+use Rattle.stack.proofs.Sites.{Possible, possible-is, is-readable}
+use Rattle.stack.proofs.Turns.{leaves-room}
+
+-- where nothing before it is refused, 11 is asked of the whole window
+pub asked-whole : (n full k : ℕ) (mask sums squares : List ℕ) → n ≤ 16384 → full ≤ 4095 → k ≤ 100
+    → length mask ≡ n → length sums ≡ n → length squares ≡ n
+    → (readable full k (length mask) (length sums) (length squares) && impossibleIn (length mask) full k (seen mask sums) (seen mask squares))
+    ≡ impossibleIn n full k (seen mask sums) (seen mask squares)
+asked-whole n full k mask sums squares few f c m s q =
+    let r = is-readable full k (length mask) (length sums) (length squares)
+    (record { scale = f; count = c; few = omega arith; long = omega arith; square-long = omega arith }) in
+    rw (r, m)
+
+-- where 11 does not apply, every site's sums are possible
+pub all-possible : (n full k : ℕ) (s q : ℕ → ℕ) → impossibleIn n full k s q ≡ false → (i : ℕ) → i < n → Possible full k (s i) (q i)
+unfolding impossibleIn
+all-possible n full k s q e i l = possible-is full k (s i) (q i) (first-nowhere (impossibleAt full k s q) n e i l)
+
+module _ (w h full k : ℕ) (mask frame sums squares : List ℕ) where
+  -- the tests in the order of document 01
+  abbrev pub tests : List Test
+  tests =
+      test 1 0 (badSides w h)
+      ∷ test 2 0 (badScale full)
+      ∷ test 3 0 (ltb 100 k)
+      ∷ test 4 0 (otherThan (sitesOf w h) (length mask))
+      ∷ test 4 0 (otherThan (sitesOf w h) (length frame))
+      ∷ test 4 0 (otherThan (sitesOf w h) (length sums))
+      ∷ test 4 0 (otherThan (sitesOf w h) (length squares))
+      ∷ testFirst 5 (sitesOf w h) (badCode mask)
+      ∷ testFirst 6 (sitesOf w h) (above full (seen mask frame))
+      ∷ test 11 0 (impossibleIn (sitesOf w h) full k (seen mask sums) (seen mask squares))
+      ∷ test 12 0 (eqb k 100)
+      ∷ []
+
+  pub table : Tabled (addVerdict w h full k mask frame sums squares) tests
+  unfolding addVerdict refuseFirst
+  table = rw shape-then (tabled _ _)
+
+  -- what is judged of buffers of another length does not matter: 4 comes first
+  pub judged : shapeOf w h full
+      ⨟ refuseIf 3 0 (ltb 100 k)
+      ⨟ refuseIf 4 0 (otherThan (sitesOf w h) (length mask))
+      ⨟ refuseIf 4 0 (otherThan (sitesOf w h) (length frame))
+      ⨟ refuseIf 4 0 (otherThan (sitesOf w h) (length sums))
+      ⨟ refuseIf 4 0 (otherThan (sitesOf w h) (length squares))
+      ⨟ codesOf (walked w h (length mask)) mask
+      ⨟ samplesOf (min (walked w h (length mask)) (walked w h (length frame))) full (seen mask frame)
+      ⨟ refuseIf 11 0 (readable full k (length mask) (length sums) (length squares) && impossibleIn (length mask) full k (seen mask sums) (seen mask squares))
+      ⨟ refuseIf 12 0 (eqb k 100)
+      ≡ addVerdict w h full k mask frame sums squares
+  unfolding addVerdict
+  judged =
+      then-same (shapeOf w h full) (λ legal. then-same (refuseIf 3 0 (ltb 100 k)) (λ few.
+      measured (sitesOf w h) (length mask) (λ m. measured (sitesOf w h) (length frame) (λ f.
+      measured (sitesOf w h) (length sums) (λ s. measured (sitesOf w h) (length squares) (λ q.
+      rw (codes-whole w h mask m, samples-whole w h full mask frame m f,
+      asked-whole (sitesOf w h) full k mask sums squares (sites-few w h) (shape-clear w h full legal .1 .high) (ltb-false 100 k (unless 3 0 (ltb 100 k) few)) m s q)))))))
+
+  -- what is known of an accepted frame and the sums
+  pub record Accepted : Type 0 where
+    pub masked : length mask ≡ sitesOf w h
+    pub framed : length frame ≡ sitesOf w h
+    pub summed : length sums ≡ sitesOf w h
+    pub square-summed : length squares ≡ sitesOf w h
+    pub bright : full ≤ 4095
+    pub room : k < 100
+    pub ranged : (i : ℕ) → i < sitesOf w h → seen mask frame i ≤ full
+    pub possible : (i : ℕ) → i < sitesOf w h → Possible full k (seen mask sums i) (seen mask squares i)
+
+  pub accepted : addVerdict w h full k mask frame sums squares ≡ verdict.Clear → Accepted
+  accepted e =
+      let p₂ = passed-tail (table .clear e) in
+      let p₃ = passed-tail p₂ in
+      let p₄ = passed-tail p₃ in
+      let f₄ = passed-tail p₄ in
+      let s₄ = passed-tail f₄ in
+      let q₄ = passed-tail s₄ in
+      let p₆ = passed-tail (passed-tail q₄) in
+      let p₁₁ = passed-tail p₆ in
+      let most = ltb-false 100 k (passed-head p₃) in
+      let full-up = eqb-false k 100 (passed-head (passed-tail p₁₁)) in
+      record {
+        masked = same-length (sitesOf w h) (length mask) (passed-head p₄);
+        framed = same-length (sitesOf w h) (length frame) (passed-head f₄);
+        summed = same-length (sitesOf w h) (length sums) (passed-head s₄);
+        square-summed = same-length (sitesOf w h) (length squares) (passed-head q₄);
+        bright = scale full (passed-head p₂) .high;
+        room = omega arith;
+        ranged = in-range (sitesOf w h) full (seen mask frame) (passed-head p₆);
+        possible = all-possible (sitesOf w h) full k (seen mask sums) (seen mask squares) (passed-head p₁₁);
+      }
+
+  -- so every sum has room for the frame's sample, and every sum of squares for its square
+  module _ (a : Accepted) (i : ℕ) (l : i < length mask) where
+    inside : i < sitesOf w h
+    inside = omega (arith, a .masked)
+
+    none : (getD mask i 0 ≡ 0 → ⊥) → seen mask frame i ≡ 0
+    none e = seen-is mask frame i ∙ seen-out (getD mask i 0) (getD frame i 0) e
+
+    pub sum-room : getD sums i 0 < 2 ^ 32 → getD sums i 0 + seen mask frame i < 2 ^ 32
+    sum-room fits =
+        let p = a .possible i inside .sum in
+        let r = a .ranged i inside in
+        let most = times-le k full 100 4095 (omega (arith, a .room)) (a .bright) in
+        leaves-room (getD mask i 0) (getD sums i 0) (seen mask frame i) (100 * 4095 + 4095) fits
+        (rw (← seen-is mask sums i) (omega (arith, a .bright))) none (omega arith)
+
+    pub square-room : getD squares i 0 < 2 ^ 32 → getD squares i 0 + squared (seen mask frame) i < 2 ^ 32
+    square-room fits =
+        let p = a .possible i inside .square in
+        let r = times-le (seen mask frame i) (seen mask frame i) full full (a .ranged i inside) (a .ranged i inside) in
+        let f = times-le full full 4095 4095 (a .bright) (a .bright) in
+        let most = times-le k (full * full) 99 (4095 * 4095) (omega (arith, a .room)) f in
+        leaves-room (getD mask i 0) (getD squares i 0) (squared (seen mask frame) i) (100 * (4095 * 4095)) fits
+        (rw (← seen-is mask squares i) (omega arith)) (λ e. rw (none e)) (omega arith)
+
+  pub refused-is : (r : Refusal) → addVerdict w h full k mask frame sums squares ≡ verdict.Refused r
+      → (Refused r ≡ addAnswer w h full k mask frame sums squares)
+      × ((addPaperOf (Refused r) ≡ addPaper w h full k mask frame sums squares)
+      × ((sums ≡ addSums w h full k mask frame sums squares) × (squares ≡ addSquares w h full k mask frame sums squares)))
+  unfolding addAnswer addPaper addSums addSquares
+  refused-is r e = rw e (refl, (refl, (refl, refl)))
+
+  pub accepted-is : addVerdict w h full k mask frame sums squares ≡ verdict.Clear
+      → (Frames (k + 1) ≡ addAnswer w h full k mask frame sums squares)
+      × ((addPaperOf (Frames (k + 1)) ≡ addPaper w h full k mask frame sums squares)
+      × ((added (seen mask frame) sums ≡ addSums w h full k mask frame sums squares)
+      × (added (squared (seen mask frame)) squares ≡ addSquares w h full k mask frame sums squares)))
+  unfolding addAnswer addPaper addSums addSquares
+  accepted-is e = rw e (refl, (refl, (refl, refl)))

@@ -1,0 +1,3 @@
+pub mod Sites
+pub mod Turns
+pub mod Adds

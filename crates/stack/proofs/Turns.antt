@@ -1,0 +1,59 @@
+-- One turn of adding: what stands at the site still is what stood there, so the sum that is stored is the one that is defined.
+use Prim.Native.Nat.{ℕ, _+_, _*_, _^_, _≤_, _<_}
+use mathlib.Core.Bool.{Bool, true, false, _&&_}
+use mathlib.Core.Logic.{⊎-elim}
+use mathlib.Core.List.{List}
+use mathlib.Core.Path.{_≡_, sym, ap, ap₂, _∙_}
+use native.Mathlib.Nat.{le-refl}
+use native.Mathlib.Omega.{arith}
+use lib.Dec.{ltb}
+use lib.ListN.{length, getD, set}
+use borrow.Author.Tests.{eqb-true, eqb-false}
+use Rattle.laws.specs.First.{firstTo}
+use Rattle.laws.proofs.Cases.{true-or-false}
+use Rattle.laws.proofs.Tables.{Filling, filling-rest, filling-more}
+use Rattle.window.specs.View.{surveyed, seenAt, seen}
+use Rattle.window.specs.Verdict.{refuseIf}
+use Rattle.window.specs.declared.Verdict.the-variants.{Clear}
+use Rattle.window.proofs.Views.{seen-is, seen-in}
+use Rattle.stack.specs.Sums.{impossible, impossibleAt, impossibleIn, readable}
+
+module _ (view : ℕ → ℕ) {d l : List ℕ} {i v : ℕ} (so-far : Filling (λ (k : ℕ). getD d k 0 + view k) d l i) (here : v ≡ view i) where
+  stored : getD l i 0 + v ≡ getD d i 0 + view i
+  stored = ap₂ (λ (x y : ℕ). x + y) (filling-rest so-far i (le-refl i)) here
+
+  pub has-room : getD d i 0 + view i < 2 ^ 32 → getD l i 0 + v < 2 ^ 32
+  has-room h = omega (arith, stored)
+
+  pub one-added : i < length l → Filling (λ (k : ℕ). getD d k 0 + view k) d (set l i (getD l i 0 + v)) (i + 1)
+  one-added h = filling-more (getD l i 0 + v) so-far h stored
+
+-- what is asked of two sums as they are seen is what is asked of their site
+pub asked-here : (full k : ℕ) (mask sums squares : List ℕ) (i s q : ℕ) (b : Bool)
+    → b ≡ impossible full k s q → s ≡ seenAt (getD mask i 0) (getD sums i 0) → q ≡ seenAt (getD mask i 0) (getD squares i 0)
+    → impossibleAt full k (seen mask sums) (seen mask squares) i ≡ b
+asked-here full k mask sums squares i s q b e p r = sym (e ∙ ap₂ (impossible full k) (p ∙ sym (seen-is mask sums i)) (r ∙ sym (seen-is mask squares i)))
+
+module _ (full k : ℕ) (mask sums squares : List ℕ) where
+  -- 11 is asked of sums that can be read, at the first site that it finds
+  pub asked-all : (at : ℕ) → readable full k (length mask) (length sums) (length squares) ≡ true
+      → at ≡ firstTo (length mask) (impossibleAt full k (seen mask sums) (seen mask squares))
+      → ltb at (length mask)
+      ≡ (readable full k (length mask) (length sums) (length squares) && impossibleIn (length mask) full k (seen mask sums) (seen mask squares))
+  unfolding impossibleIn
+  asked-all at e f = rw (e, f)
+
+  -- and not of others
+  pub not-asked : readable full k (length mask) (length sums) (length squares) ≡ false
+      → Clear
+      ≡ refuseIf 11 0 (readable full k (length mask) (length sums) (length squares) && impossibleIn (length mask) full k (seen mask sums) (seen mask squares))
+  unfolding refuseIf
+  not-asked e = rw e
+
+-- a sum has room for what is seen, where as much as is seen of it does: where it is not surveyed, nothing is added
+pub leaves-room : (code s v b : ℕ) → s < 2 ^ 32 → seenAt code s + v ≤ b → ((code ≡ 0 → ⊥) → v ≡ 0) → b < 2 ^ 32 → s + v < 2 ^ 32
+leaves-room code s v b fits sum none small =
+    ⊎-elim
+    (λ t. omega (arith, seen-in code s (eqb-true code 0 t)))
+    (λ t. omega (arith, none (eqb-false code 0 t)))
+    (true-or-false (surveyed code))

@@ -1,0 +1,4 @@
+pub mod Sums
+pub mod Add
+pub mod Variance
+pub mod Run

@@ -1,0 +1,37 @@
+-- Document 01, "Stack": the sums s and the sums of squares q that the caller lends, one of each a site, and their frame count k.
+use Prim.Native.Nat.{ℕ, _+_, _-_, _*_}
+use mathlib.Core.Bool.{Bool, _||_, _&&_}
+use mathlib.Core.List.{List}
+use lib.Dec.{eqb, ltb, leb}
+use lib.ListN.{length, getD}
+use Rattle.laws.specs.First.{firstTo}
+use Rattle.laws.specs.Sum.{sumTo}
+use Rattle.laws.specs.Table.{tabulate}
+
+-- s > k × full scale, q > k × full scale², or k × q < s²
+unfoldable pub impossible : ℕ → ℕ → ℕ → ℕ → Bool
+impossible full k s q = ltb (k * full) s || (ltb (k * (full * full)) q || ltb (k * q) (s * s))
+
+-- 11: the sums that are seen at a site cannot come from the frame count, at some of n sites
+abbrev pub impossibleAt : ℕ → ℕ → (ℕ → ℕ) → (ℕ → ℕ) → ℕ → Bool
+impossibleAt full k s q i = impossible full k (s i) (q i)
+
+unfoldable pub impossibleIn : ℕ → ℕ → ℕ → (ℕ → ℕ) → (ℕ → ℕ) → Bool
+impossibleIn n full k s q = ltb (firstTo n (impossibleAt full k s q)) n
+
+-- the square of what is seen
+abbrev pub squared : (ℕ → ℕ) → ℕ → ℕ
+squared view i = view i * view i
+
+-- sums with what is seen at each site added: at a site that is not surveyed 0 is
+unfoldable pub added : (ℕ → ℕ) → List ℕ → List ℕ
+added view sums = tabulate (length sums) (λ (i : ℕ). getD sums i 0 + view i)
+
+-- the sum of k × q − s² over n sites: 11 has made sure that no s² is above its k × q
+unfoldable pub spread : ℕ → ℕ → (ℕ → ℕ) → (ℕ → ℕ) → ℕ
+spread n k s q = sumTo n (λ (i : ℕ). k * q i - s i * s i)
+
+-- sums that can be walked with a mask of this length, and whose products fit
+unfoldable pub readable : ℕ → ℕ → ℕ → ℕ → ℕ → Bool
+readable full k mask sums squares =
+    leb full 4095 && (leb k 100 && (leb mask 16384 && (eqb sums mask && eqb squares mask)))

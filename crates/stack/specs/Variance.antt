@@ -1,0 +1,78 @@
+-- Document 01, "Stack": what `stack_variance` answers.
+use Prim.Native.Nat.{ℕ, _*_, _^_}
+use mathlib.Core.Bool.{Bool, _||_}
+use mathlib.Core.List.{List}
+use lib.Dec.{eqb, ltb, leb}
+use lib.Ieee.{Float, binary64, ofBits}
+use lib.ListN.{length}
+use Rattle.laws.specs.Sum.{sumTo}
+use Rattle.exact.specs.Quotient.{quotient}
+use Rattle.window.specs.Shape.{sitesOf}
+use Rattle.window.specs.View.{seen, one}
+use Rattle.window.specs.Verdict.{_⨟_, refuseIf, numberOf, placeOf, ifClear}
+use Rattle.window.specs.Judge.{shapeOf, otherThan, codesOf}
+use Rattle.window.specs.declared.Verdict.{Verdict}
+use Rattle.window.specs.declared.Verdict.the-variants as verdict
+use Rattle.stack.specs.Sums.{impossibleIn, spread}
+use Rattle.stack.specs.declared.Variance.{Variance}
+use Rattle.stack.specs.declared.Variance.the-variants.{Figures, Refused}
+
+-- 3: a frame count of 0 or above 100
+unfoldable pub badCount : ℕ → Bool
+badCount k = eqb k 0 || ltb 100 k
+
+-- 7: no surveyed site, or fewer than 2 frames
+unfoldable pub tooFew : ℕ → ℕ → Bool
+tooFew sites k = eqb sites 0 || ltb k 2
+
+-- the refusals in their order
+unfoldable pub varianceVerdict : ℕ → ℕ → ℕ → ℕ → List ℕ → List ℕ → List ℕ → Verdict
+varianceVerdict w h full k mask sums squares =
+    shapeOf w h full
+    ⨟ refuseIf 3 0 (badCount k)
+    ⨟ refuseIf 4 0 (otherThan (sitesOf w h) (length mask))
+    ⨟ refuseIf 4 0 (otherThan (sitesOf w h) (length sums))
+    ⨟ refuseIf 4 0 (otherThan (sitesOf w h) (length squares))
+    ⨟ codesOf (sitesOf w h) mask
+    ⨟ refuseIf 7 0 (tooFew (sumTo (sitesOf w h) (one mask)) k)
+    ⨟ refuseIf 11 0 (impossibleIn (sitesOf w h) full k (seen mask sums) (seen mask squares))
+    ⨟ refuseIf 14 0 (leb (2 ^ 53) (spread (sitesOf w h) k (seen mask sums) (seen mask squares)))
+
+abbrev pub figured : Verdict → ℕ → ℕ → Variance
+figured verdict.Clear numerator denominator = Figures numerator denominator (quotient numerator denominator)
+figured (verdict.Refused r) numerator denominator = Refused r
+
+-- the sum of k × q − s² over n surveyed sites, over n × k², and their quotient, rounded once
+unfoldable pub varianceAnswer : ℕ → ℕ → ℕ → ℕ → List ℕ → List ℕ → List ℕ → Variance
+varianceAnswer w h full k mask sums squares =
+    figured (varianceVerdict w h full k mask sums squares)
+    (spread (sitesOf w h) k (seen mask sums) (seen mask squares))
+    (sumTo (sitesOf w h) (one mask) * (k * k))
+
+-- the paper's numbers of an answer
+pub record VarianceNumbers : Type 0 where
+  pub number : ℕ
+  pub place : ℕ
+  pub numerator : ℕ
+  pub denominator : ℕ
+  pub variance : Float
+
+abbrev pub variancePaperOf : Variance → VarianceNumbers
+variancePaperOf (Figures numerator denominator variance) =
+    record { number = 0; place = 0; numerator = numerator; denominator = denominator; variance = variance }
+variancePaperOf (Refused r) =
+    record { number = r .number; place = r .place; numerator = 0; denominator = 0; variance = ofBits binary64 0 }
+
+-- the paper's numbers for all inputs
+unfoldable pub variancePaper : ℕ → ℕ → ℕ → ℕ → List ℕ → List ℕ → List ℕ → VarianceNumbers
+variancePaper w h full k mask sums squares =
+    let v = varianceVerdict w h full k mask sums squares in
+    let numerator = spread (sitesOf w h) k (seen mask sums) (seen mask squares) in
+    let denominator = sumTo (sitesOf w h) (one mask) * (k * k) in
+    record {
+      number = numberOf v;
+      place = placeOf v;
+      numerator = ifClear v numerator 0;
+      denominator = ifClear v denominator 0;
+      variance = ifClear v (quotient numerator denominator) (ofBits binary64 0);
+    }

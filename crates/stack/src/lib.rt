@@ -1,0 +1,170 @@
+// A stack of frames: document 01, "Stack".
+ghost use mathlib.Core.Path.{_≡_};
+ghost use mathlib.Core.Bool.{true, _&&_, cond};
+ghost use Prim.Native.Nat.{ℕ, _+_, _-_, _*_, _^_, _≤_, _<_};
+ghost use lib.ListN.{length, getD};
+ghost use Rattle.laws.specs.First.{firstTo};
+ghost use Rattle.laws.specs.Sum.{sumTo};
+ghost use Rattle.window.specs.View.{seenAt, seen, one};
+ghost use Rattle.window.specs.Verdict.{refuseIf};
+ghost use Rattle.stack.specs.Sums.{impossible, impossibleAt, impossibleIn, squared, added, spread, readable};
+ghost use Rattle.stack.specs.Add.{addVerdict, addAnswer, addPaperOf, addPaper, addSums, addSquares};
+use window::Refusal;
+use window::Verdict;
+
+// The frames that are in the stack now, or a refusal.
+pub enum Added {
+    Frames(u64),
+    Refused(Refusal),
+}
+
+// Numerator, denominator and their quotient, or a refusal.
+pub enum Variance {
+    Figures(u64, u64, f64),
+    Refused(Refusal),
+}
+
+// A sum as its site's code lets it be seen.
+fn sum_at(code: u8, sum: u32) -> u32
+    ensures { λ r. ⌜ r ≡ seenAt code sum ⌝ }
+{
+    if code == 0 { sum } else { 0 }
+}
+
+// Whether sums can be walked with a mask of this length, and their products fit.
+fn readable(full_scale: u64, frames: u64, mask: usize, sums: usize, squares: usize) -> bool
+    ensures { λ r. ⌜ r ≡ readable «full_scale» frames mask sums squares ⌝ }
+{
+    if 4095 < full_scale {
+        return false;
+    }
+    if 100 < frames {
+        return false;
+    }
+    if 16384 < mask {
+        return false;
+    }
+    if sums != mask {
+        return false;
+    }
+    squares == mask
+}
+
+// Whether a site's sums cannot come from so many frames.
+fn impossible(full_scale: u64, frames: u64, sum: u32, square: u32) -> bool
+    requires { ⌜ («full_scale» ≤ 4095) × (frames ≤ 100) ⌝ }
+    ensures { λ r. ⌜ r ≡ impossible «full_scale» frames sum square ⌝ }
+{
+    let s = sum as u64;
+    let q = square as u64;
+    if frames * full_scale < s {
+        return true;
+    }
+    if frames * (full_scale * full_scale) < q {
+        return true;
+    }
+    frames * q < s * s
+}
+
+// The first site whose sums cannot come from so many frames, or the number of sites.
+fn first_impossible(full_scale: u64, frames: u64, mask: &[u8], sums: &[u32], squares: &[u32]) -> usize
+    requires { ⌜ readable «full_scale» frames (length (now mask)) (length (now sums)) (length (now squares)) ≡ true ⌝ }
+    ensures { λ r. ⌜ r ≡ firstTo (length (now (mask .entry))) (impossibleAt «full_scale» frames (seen (now (mask .entry)) (now (sums .entry))) (seen (now (mask .entry)) (now (squares .entry)))) ⌝ }
+{
+    let mut at: usize = 0;
+    while at < mask.len() {
+        if impossible(full_scale, frames, sum_at(mask[at], sums[at]), sum_at(mask[at], squares[at])) {
+            return at;
+        }
+        at += 1;
+    }
+    at
+}
+
+// Refusal 11, of sums that can be read; any others are not walked.
+fn possible(full_scale: u64, frames: u64, mask: &[u8], sums: &[u32], squares: &[u32]) -> Verdict
+    ensures { λ r. ⌜ r ≡ refuseIf 11 0 (readable «full_scale» frames (length (now (mask .entry))) (length (now (sums .entry))) (length (now (squares .entry)))
+        && impossibleIn (length (now (mask .entry))) «full_scale» frames (seen (now (mask .entry)) (now (sums .entry))) (seen (now (mask .entry)) (now (squares .entry)))) ⌝ }
+{
+    if readable(full_scale, frames, mask.len(), sums.len(), squares.len()) {
+        let at = first_impossible(full_scale, frames, mask, sums, squares);
+        return window::refuse_if(11, 0, at < mask.len());
+    }
+    Verdict::Clear
+}
+
+// Refusals 1 to 12 of a frame that is offered.
+fn judge_frame(
+    width: usize,
+    height: usize,
+    full_scale: u64,
+    frames: u64,
+    mask: &[u8],
+    frame: &[u16],
+    sums: &[u32],
+    squares: &[u32],
+) -> Verdict
+    ensures { λ r. ⌜ r ≡ addVerdict width height «full_scale» frames (now (mask .entry)) (now (frame .entry)) (now (sums .entry)) (now (squares .entry)) ⌝ }
+{
+    let n = window::sites(width, height);
+    let shape = window::shape(width, height, full_scale);
+    let count = window::refuse_if(3, 0, 100 < frames);
+    let mask_long = window::refuse_if(4, 0, mask.len() != n);
+    let frame_long = window::refuse_if(4, 0, frame.len() != n);
+    let sums_long = window::refuse_if(4, 0, sums.len() != n);
+    let squares_long = window::refuse_if(4, 0, squares.len() != n);
+    let codes = window::codes(width, height, mask);
+    let samples = window::samples(width, height, full_scale, mask, frame);
+    let odd = possible(full_scale, frames, mask, sums, squares);
+    let full = window::refuse_if(12, 0, frames == 100);
+    let sites = window::then(codes, window::then(samples, window::then(odd, full)));
+    let stack_long = window::then(sums_long, window::then(squares_long, sites));
+    let lengths = window::then(mask_long, window::then(frame_long, stack_long));
+    window::then(shape, window::then(count, lengths))
+}
+
+fn wide(sample: u16) -> u32
+    ensures { λ r. ⌜ r ≡ sample ⌝ }
+{
+    sample as u32
+}
+
+// Adds what is seen of a frame, where each sum has room.
+fn add_seen(mask: &[u8], frame: &[u16], sums: &mut [u32], squares: &mut [u32])
+    requires { ⌜ (length (now frame) ≡ length (now mask)) × (length (now sums) ≡ length (now mask)) × (length (now squares) ≡ length (now mask))
+        × ((i : ℕ) → i < length (now mask) → getD (now sums) i 0 + seen (now mask) (now frame) i < 2 ^ 32)
+        × ((i : ℕ) → i < length (now mask) → getD (now squares) i 0 + squared (seen (now mask) (now frame)) i < 2 ^ 32) ⌝ }
+    ensures sums { λ r. ⌜ now (sums .exit) ≡ added (seen (now (mask .entry)) (now (frame .entry))) (now (sums .entry)) ⌝ }
+    ensures squares { λ r. ⌜ now (squares .exit) ≡ added (squared (seen (now (mask .entry)) (now (frame .entry)))) (now (squares .entry)) ⌝ }
+{
+    for i in 0..mask.len() {
+        let sample = wide(window::seen_at(mask[i], frame[i]));
+        sums[i] = sums[i] + sample;
+        squares[i] = squares[i] + sample * sample;
+    }
+}
+
+// Adds a frame to a stack of `frames` frames.
+pub fn stack_add(
+    width: usize,
+    height: usize,
+    full_scale: u64,
+    frames: u64,
+    mask: &[u8],
+    frame: &[u16],
+    sums: &mut [u32],
+    squares: &mut [u32],
+) -> Added
+    ensures answer { λ r. ⌜ r ≡ addAnswer width height «full_scale» frames (now (mask .entry)) (now (frame .entry)) (now (sums .entry)) (now (squares .entry)) ⌝ }
+    ensures paper { λ r. ⌜ addPaperOf r ≡ addPaper width height «full_scale» frames (now (mask .entry)) (now (frame .entry)) (now (sums .entry)) (now (squares .entry)) ⌝ }
+    ensures sums { λ r. ⌜ now (sums .exit) ≡ addSums width height «full_scale» frames (now (mask .entry)) (now (frame .entry)) (now (sums .entry)) (now (squares .entry)) ⌝ }
+    ensures squares { λ r. ⌜ now (squares .exit) ≡ addSquares width height «full_scale» frames (now (mask .entry)) (now (frame .entry)) (now (sums .entry)) (now (squares .entry)) ⌝ }
+{
+    match judge_frame(width, height, full_scale, frames, mask, frame, sums, squares) {
+        Verdict::Refused(refusal) => Added::Refused(refusal),
+        Verdict::Clear => {
+            add_seen(mask, frame, sums, squares);
+            Added::Frames(frames + 1)
+        }
+    }
+}
