@@ -26,23 +26,8 @@ use Rattle.window.proofs.Chains.{shape-then, shape-clear, same-length, in-range
 use Rattle.stack.specs.Sums.{impossible, impossibleAt, impossibleIn, squared, added, readable}
 use Rattle.stack.specs.Add.{addVerdict, counted, addAnswer, addPaperOf, addPaper, addSums, addSquares}
 use Rattle.stack.specs.declared.Added.the-variants.{Frames, Refused}
-use Rattle.stack.proofs.Sites.{Possible, possible-is, is-readable}
+use Rattle.stack.proofs.Sites.{Possible, readable-whole, all-possible}
 use Rattle.stack.proofs.Turns.{leaves-room}
-
--- where nothing before it is refused, 11 is asked of the whole window
-pub asked-whole : (n full k : ℕ) (mask sums squares : List ℕ) → n ≤ 16384 → full ≤ 4095 → k ≤ 100
-    → length mask ≡ n → length sums ≡ n → length squares ≡ n
-    → (readable full k (length mask) (length sums) (length squares) && impossibleIn (length mask) full k (seen mask sums) (seen mask squares))
-    ≡ impossibleIn n full k (seen mask sums) (seen mask squares)
-asked-whole n full k mask sums squares few f c m s q =
-    let r = is-readable full k (length mask) (length sums) (length squares)
-    (record { scale = f; count = c; few = omega arith; long = omega arith; square-long = omega arith }) in
-    rw (r, m)
-
--- where 11 does not apply, every site's sums are possible
-pub all-possible : (n full k : ℕ) (s q : ℕ → ℕ) → impossibleIn n full k s q ≡ false → (i : ℕ) → i < n → Possible full k (s i) (q i)
-unfolding impossibleIn
-all-possible n full k s q e i l = possible-is full k (s i) (q i) (first-nowhere (impossibleAt full k s q) n e i l)
 
 module _ (w h full k : ℕ) (mask frame sums squares : List ℕ) where
   -- the tests in the order of document 01
@@ -82,8 +67,8 @@ module _ (w h full k : ℕ) (mask frame sums squares : List ℕ) where
       then-same (shapeOf w h full) (λ legal. then-same (refuseIf 3 0 (ltb 100 k)) (λ few.
       measured (sitesOf w h) (length mask) (λ m. measured (sitesOf w h) (length frame) (λ f.
       measured (sitesOf w h) (length sums) (λ s. measured (sitesOf w h) (length squares) (λ q.
-      rw (codes-whole w h mask m, samples-whole w h full mask frame m f,
-      asked-whole (sitesOf w h) full k mask sums squares (sites-few w h) (shape-clear w h full legal .1 .high) (ltb-false 100 k (unless 3 0 (ltb 100 k) few)) m s q)))))))
+      let r = readable-whole w h full k mask sums squares (shape-clear w h full legal .1 .high) (ltb-false 100 k (unless 3 0 (ltb 100 k) few)) m s q in
+      rw (codes-whole w h mask m, samples-whole w h full mask frame m f, r, m)))))))
 
   -- what is known of an accepted frame and the sums
   pub record Accepted : Type 0 where

@@ -1,3 +1,4 @@
 pub mod Sites
 pub mod Turns
 pub mod Adds
+pub mod Variances

@@ -1,14 +1,19 @@
 -- The sums at a site: when they can be read, and when they can come from k frames.
 use Prim.Native.Nat.{ℕ, zero, suc, _+_, _-_, _*_, _^_, _≤_, _<_}
 use mathlib.Core.Bool.{Bool, true, false, _||_, _&&_}
+use mathlib.Core.List.{List}
 use mathlib.Core.Path.{_≡_, refl, sym, ap, _∙_}
 use native.Mathlib.Nat.{add-mul, one-mul, mul-add}
 use native.Mathlib.Omega.{arith}
 use lib.Dec.{eqb, ltb, leb}
+use lib.ListN.{length}
 use borrow.Author.Tests.{le-ltb, ltb-false, leb-true, le-leb, eqb-true, eq-eqb}
 use Rattle.laws.proofs.Cases.{neither, and-true, times-le}
+use Rattle.laws.proofs.Firsts.{first-nowhere}
 use Rattle.laws.proofs.Squares.{schwarz-more}
-use Rattle.stack.specs.Sums.{impossible, readable}
+use Rattle.window.specs.Shape.{sitesOf}
+use Rattle.window.proofs.Sides.{sites-few}
+use Rattle.stack.specs.Sums.{impossible, impossibleAt, impossibleIn, readable}
 
 pub record Readable (full k mask sums squares : ℕ) : Type 0 where
   pub scale : full ≤ 4095
@@ -66,3 +71,16 @@ possible-more full k s q p a l = record {
   square = omega (arith, add-mul k 1 (full * full), times-le p p full full l l);
   spread = schwarz-more k q s p (a .spread);
 }
+
+-- the sums of a whole window can be read
+pub readable-whole : (w h full k : ℕ) (mask sums squares : List ℕ) → full ≤ 4095 → k ≤ 100
+    → length mask ≡ sitesOf w h → length sums ≡ sitesOf w h → length squares ≡ sitesOf w h
+    → readable full k (length mask) (length sums) (length squares) ≡ true
+readable-whole w h full k mask sums squares f c m s q =
+    is-readable full k (length mask) (length sums) (length squares)
+    (record { scale = f; count = c; few = omega (arith, sites-few w h); long = omega arith; square-long = omega arith })
+
+-- where 11 does not apply, every site's sums are possible, and where they are it does not
+pub all-possible : (n full k : ℕ) (s q : ℕ → ℕ) → impossibleIn n full k s q ≡ false → (i : ℕ) → i < n → Possible full k (s i) (q i)
+unfolding impossibleIn
+all-possible n full k s q e i l = possible-is full k (s i) (q i) (first-nowhere (impossibleAt full k s q) n e i l)

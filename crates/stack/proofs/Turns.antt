@@ -1,5 +1,5 @@
 -- One turn of adding: what stands at the site still is what stood there, so the sum that is stored is the one that is defined.
-use Prim.Native.Nat.{ℕ, _+_, _*_, _^_, _≤_, _<_}
+use Prim.Native.Nat.{ℕ, _+_, _-_, _*_, _^_, _≤_, _<_}
 use mathlib.Core.Bool.{Bool, true, false, _&&_}
 use mathlib.Core.Logic.{⊎-elim}
 use mathlib.Core.List.{List}
@@ -11,12 +11,13 @@ use lib.ListN.{length, getD, set}
 use borrow.Author.Tests.{eqb-true, eqb-false}
 use Rattle.laws.specs.First.{firstTo}
 use Rattle.laws.proofs.Cases.{true-or-false}
+use Rattle.laws.proofs.Sums.{sum-none, sum-more}
 use Rattle.laws.proofs.Tables.{Filling, filling-rest, filling-more}
 use Rattle.window.specs.View.{surveyed, seenAt, seen}
 use Rattle.window.specs.Verdict.{refuseIf}
 use Rattle.window.specs.declared.Verdict.the-variants.{Clear}
 use Rattle.window.proofs.Views.{seen-is, seen-in}
-use Rattle.stack.specs.Sums.{impossible, impossibleAt, impossibleIn, readable}
+use Rattle.stack.specs.Sums.{impossible, impossibleAt, impossibleIn, spread, readable}
 
 module _ (view : ℕ → ℕ) {d l : List ℕ} {i v : ℕ} (so-far : Filling (λ (k : ℕ). getD d k 0 + view k) d l i) (here : v ≡ view i) where
   stored : getD l i 0 + v ≡ getD d i 0 + view i
@@ -33,6 +34,20 @@ pub asked-here : (full k : ℕ) (mask sums squares : List ℕ) (i s q : ℕ) (b 
     → b ≡ impossible full k s q → s ≡ seenAt (getD mask i 0) (getD sums i 0) → q ≡ seenAt (getD mask i 0) (getD squares i 0)
     → impossibleAt full k (seen mask sums) (seen mask squares) i ≡ b
 asked-here full k mask sums squares i s q b e p r = sym (e ∙ ap₂ (impossible full k) (p ∙ sym (seen-is mask sums i)) (r ∙ sym (seen-is mask squares i)))
+
+-- one turn of the numerator
+pub spread-none : (k : ℕ) (s q : ℕ → ℕ) → 0 ≡ spread 0 k s q
+unfolding spread
+spread-none k s q = sum-none (λ (i : ℕ). k * q i - s i * s i)
+
+pub spread-more : (k : ℕ) (mask sums squares : List ℕ) (i total s q e : ℕ)
+    → total ≡ spread i k (seen mask sums) (seen mask squares)
+    → e ≡ k * q - s * s → s ≡ seenAt (getD mask i 0) (getD sums i 0) → q ≡ seenAt (getD mask i 0) (getD squares i 0)
+    → total + e ≡ spread (i + 1) k (seen mask sums) (seen mask squares)
+unfolding spread
+spread-more k mask sums squares i total s q e t x p r =
+    rw (t, x, p, r, ← seen-is mask sums i, ← seen-is mask squares i)
+    (sum-more i (λ (j : ℕ). k * seen mask squares j - seen mask sums j * seen mask sums j))
 
 module _ (full k : ℕ) (mask sums squares : List ℕ) where
   -- 11 is asked of sums that can be read, at the first site that it finds

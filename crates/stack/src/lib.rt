@@ -8,6 +8,7 @@ ghost use Rattle.laws.specs.Sum.{sumTo};
 ghost use Rattle.window.specs.View.{seenAt, seen, one};
 ghost use Rattle.window.specs.Verdict.{refuseIf};
 ghost use Rattle.stack.specs.Sums.{impossible, impossibleAt, impossibleIn, squared, added, spread, readable};
+ghost use Rattle.stack.specs.Variance.{badCount, tooFew, varianceVerdict, varianceAnswer, variancePaperOf, variancePaper};
 ghost use Rattle.stack.specs.Add.{addVerdict, addAnswer, addPaperOf, addPaper, addSums, addSquares};
 use window::Refusal;
 use window::Verdict;
@@ -165,6 +166,109 @@ pub fn stack_add(
         Verdict::Clear => {
             add_seen(mask, frame, sums, squares);
             Added::Frames(frames + 1)
+        }
+    }
+}
+
+fn bad_count(frames: u64) -> bool
+    ensures { λ r. ⌜ r ≡ badCount frames ⌝ }
+{
+    frames == 0 || 100 < frames
+}
+
+fn too_few(sites: u64, frames: u64) -> bool
+    ensures { λ r. ⌜ r ≡ tooFew sites frames ⌝ }
+{
+    sites == 0 || frames < 2
+}
+
+// k × q − s² at a site, or 0 where s² is the greater.
+fn excess(frames: u64, sum: u32, square: u32) -> u64
+    requires { ⌜ frames ≤ 100 ⌝ }
+    ensures { λ r. ⌜ (r ≡ frames * square - sum * sum) × (r ≤ 100 * 4294967295) ⌝ }
+{
+    let whole = frames * (square as u64);
+    let taken = (sum as u64) * (sum as u64);
+    if whole < taken { 0 } else { whole - taken }
+}
+
+fn sum_excess(frames: u64, mask: &[u8], sums: &[u32], squares: &[u32]) -> u64
+    requires { ⌜ (frames ≤ 100) × (length (now mask) ≤ 16384) × (length (now sums) ≡ length (now mask)) × (length (now squares) ≡ length (now mask)) ⌝ }
+    ensures { λ r. ⌜ r ≡ spread (length (now (mask .entry))) frames (seen (now (mask .entry)) (now (sums .entry))) (seen (now (mask .entry)) (now (squares .entry))) ⌝ }
+{
+    let mut total: u64 = 0;
+    for i in 0..mask.len() {
+        total += excess(frames, sum_at(mask[i], sums[i]), sum_at(mask[i], squares[i]));
+    }
+    total
+}
+
+// The variance's numerator, of sums that can be read, and 0 of any others.
+fn spread(full_scale: u64, frames: u64, mask: &[u8], sums: &[u32], squares: &[u32]) -> u64
+    ensures { λ r. ⌜ r ≡ cond (readable «full_scale» frames (length (now (mask .entry))) (length (now (sums .entry))) (length (now (squares .entry))))
+        (spread (length (now (mask .entry))) frames (seen (now (mask .entry)) (now (sums .entry))) (seen (now (mask .entry)) (now (squares .entry)))) 0 ⌝ }
+{
+    if readable(full_scale, frames, mask.len(), sums.len(), squares.len()) {
+        return sum_excess(frames, mask, sums, squares);
+    }
+    0
+}
+
+// 2 ^ 53: whole numbers below it have an exact f64.
+const EXACT: u64 = 0x20_0000_0000_0000;
+
+// Refusals 1 to 14 of a stack with this many surveyed sites and this numerator.
+fn judge_stack(
+    width: usize,
+    height: usize,
+    full_scale: u64,
+    frames: u64,
+    mask: &[u8],
+    sums: &[u32],
+    squares: &[u32],
+    count: u64,
+    numerator: u64,
+) -> Verdict
+    requires { ⌜ (count ≡ sumTo (length (now mask)) (one (now mask)))
+        × (numerator ≡ cond (readable «full_scale» frames (length (now mask)) (length (now sums)) (length (now squares)))
+        (spread (length (now mask)) frames (seen (now mask) (now sums)) (seen (now mask) (now squares))) 0) ⌝ }
+    ensures { λ r. ⌜ r ≡ varianceVerdict width height «full_scale» frames (now (mask .entry)) (now (sums .entry)) (now (squares .entry)) ⌝ }
+{
+    let n = window::sites(width, height);
+    let shape = window::shape(width, height, full_scale);
+    let bad = window::refuse_if(3, 0, bad_count(frames));
+    let mask_long = window::refuse_if(4, 0, mask.len() != n);
+    let sums_long = window::refuse_if(4, 0, sums.len() != n);
+    let squares_long = window::refuse_if(4, 0, squares.len() != n);
+    let codes = window::codes(width, height, mask);
+    let few = window::refuse_if(7, 0, too_few(count, frames));
+    let odd = possible(full_scale, frames, mask, sums, squares);
+    let inexact = window::refuse_if(14, 0, EXACT <= numerator);
+    let sites = window::then(codes, window::then(few, window::then(odd, inexact)));
+    let stack_long = window::then(sums_long, window::then(squares_long, sites));
+    window::then(shape, window::then(bad, window::then(mask_long, stack_long)))
+}
+
+// The variance of a stack of `frames` frames.
+pub fn stack_variance(
+    width: usize,
+    height: usize,
+    full_scale: u64,
+    frames: u64,
+    mask: &[u8],
+    sums: &[u32],
+    squares: &[u32],
+) -> Variance
+    ensures answer { λ r. ⌜ r ≡ varianceAnswer width height «full_scale» frames (now (mask .entry)) (now (sums .entry)) (now (squares .entry)) ⌝ }
+    ensures paper { λ r. ⌜ variancePaperOf r ≡ variancePaper width height «full_scale» frames (now (mask .entry)) (now (sums .entry)) (now (squares .entry)) ⌝ }
+{
+    let count = window::surveyed(mask);
+    let numerator = spread(full_scale, frames, mask, sums, squares);
+    match judge_stack(width, height, full_scale, frames, mask, sums, squares, count, numerator) {
+        Verdict::Refused(refusal) => Variance::Refused(refusal),
+        Verdict::Clear => {
+            let denominator = count * (frames * frames);
+            Variance::Figures(numerator, denominator, exact::ratio(numerator, denominator))
         }
     }
 }

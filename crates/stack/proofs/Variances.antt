@@ -1,0 +1,179 @@
+-- The verdict on a stack's variance, and what it makes of the answer.
+use Prim.Native.Nat.{ℕ, _+_, _-_, _*_, _^_, _≤_, _<_}
+use mathlib.Core.Bool.{Bool, true, false, _&&_, cond}
+use mathlib.Core.List.{List, [], _∷_}
+use mathlib.Core.Path.{_≡_, refl, sym, ap, _∙_}
+use native.Mathlib.Nat.{mul-pos}
+use native.Mathlib.Omega.{arith}
+use lib.Dec.{eqb, ltb, leb}
+use lib.Ieee.{Float}
+use lib.ListN.{length, getD}
+use borrow.Author.Tests.{ltb-false, eqb-false, leb-false}
+use Rattle.laws.specs.Sum.{sumTo}
+use Rattle.laws.proofs.Cases.{neither, times-le}
+use Rattle.laws.proofs.Sums.{sum-le}
+use Rattle.exact.specs.Quotient.{quotientOrZero}
+use Rattle.exact.proofs.Quotients.{Ranged, ranged-quotient}
+use Rattle.window.specs.Shape.{badSides, badScale, sitesOf}
+use Rattle.window.specs.View.{badCode, seen, one}
+use Rattle.window.specs.Verdict.{_⨟_, refuseIf, refuseFirst}
+use Rattle.window.specs.Judge.{shapeOf, otherThan, codesOf, walked}
+use Rattle.window.specs.declared.Refusal.{Refusal}
+use Rattle.window.specs.declared.Verdict.{Verdict}
+use Rattle.window.specs.declared.Verdict.the-variants as verdict
+use Rattle.window.proofs.Sides.{scale, sites-few}
+use Rattle.window.proofs.Verdicts.{Test, Tabled, test, testFirst, tabled, passed-head, passed-tail, then-same, unless}
+use Rattle.window.proofs.Views.{surveyed-few}
+use Rattle.window.proofs.Chains.{shape-then, shape-clear, same-length, measured, codes-whole}
+use Rattle.stack.specs.Sums.{impossibleIn, spread, readable}
+use Rattle.stack.specs.Variance.{badCount, tooFew, varianceVerdict, figured, varianceAnswer, variancePaperOf, variancePaper}
+use Rattle.stack.specs.declared.Variance.the-variants.{Figures, Refused}
+use Rattle.stack.proofs.Sites.{Possible, readable-whole, all-possible}
+
+-- 3 and 7 do not apply
+pub good-count : (k : ℕ) → badCount k ≡ false → k ≤ 100
+unfolding badCount
+good-count k e = ltb-false 100 k (neither (eqb k 0) (ltb 100 k) e .1)
+
+pub enough : (n k : ℕ) → tooFew n k ≡ false → (0 < n) × (2 ≤ k)
+unfolding tooFew
+enough n k e =
+    let both = neither (eqb n 0) (ltb k 2) e in
+    let some = eqb-false n 0 (both .0) in
+    (omega arith, ltb-false k 2 (both .1))
+
+-- possible sums of at most 100 frames up to full scale have a numerator below 2 ^ 53
+pub spread-exact : (n full k : ℕ) (s q : ℕ → ℕ) → n ≤ 16384 → full ≤ 4095 → k ≤ 100
+    → ((i : ℕ) → i < n → Possible full k (s i) (q i)) → spread n k s q < 2 ^ 53
+unfolding spread
+spread-exact n full k s q few bright most possible =
+    let square = times-le full full 4095 4095 bright bright in
+    let sites = times-le n (100 * (100 * (4095 * 4095))) 16384 (100 * (100 * (4095 * 4095))) few (omega arith) in
+    omega (arith, sites, sum-le n (100 * (100 * (4095 * 4095))) (λ (i : ℕ). k * q i - s i * s i) (λ i l. site i l square))
+  where
+    site : (i : ℕ) → i < n → full * full ≤ 4095 * 4095 → k * q i - s i * s i ≤ 100 * (100 * (4095 * 4095))
+    site i l square =
+        let all = times-le k (full * full) 100 (4095 * 4095) most square in
+        let whole = times-le k (q i) 100 (100 * (4095 * 4095)) most (omega (arith, possible i l .square)) in
+        omega arith
+
+module _ (w h full k : ℕ) (mask sums squares : List ℕ) where
+  -- the tests in the order of document 01
+  abbrev pub tests : List Test
+  tests =
+      test 1 0 (badSides w h)
+      ∷ test 2 0 (badScale full)
+      ∷ test 3 0 (badCount k)
+      ∷ test 4 0 (otherThan (sitesOf w h) (length mask))
+      ∷ test 4 0 (otherThan (sitesOf w h) (length sums))
+      ∷ test 4 0 (otherThan (sitesOf w h) (length squares))
+      ∷ testFirst 5 (sitesOf w h) (badCode mask)
+      ∷ test 7 0 (tooFew (sumTo (sitesOf w h) (one mask)) k)
+      ∷ test 11 0 (impossibleIn (sitesOf w h) full k (seen mask sums) (seen mask squares))
+      ∷ test 14 0 (leb (2 ^ 53) (spread (sitesOf w h) k (seen mask sums) (seen mask squares)))
+      ∷ []
+
+  pub table : Tabled (varianceVerdict w h full k mask sums squares) tests
+  unfolding varianceVerdict refuseFirst
+  table = rw shape-then (tabled _ _)
+
+  -- what is judged of buffers of another length does not matter: 4 comes first
+  pub judged : (count numerator : ℕ) → count ≡ sumTo (length mask) (one mask)
+      → numerator ≡ cond (readable full k (length mask) (length sums) (length squares)) (spread (length mask) k (seen mask sums) (seen mask squares)) 0
+      → shapeOf w h full
+      ⨟ refuseIf 3 0 (badCount k)
+      ⨟ refuseIf 4 0 (otherThan (sitesOf w h) (length mask))
+      ⨟ refuseIf 4 0 (otherThan (sitesOf w h) (length sums))
+      ⨟ refuseIf 4 0 (otherThan (sitesOf w h) (length squares))
+      ⨟ codesOf (walked w h (length mask)) mask
+      ⨟ refuseIf 7 0 (tooFew count k)
+      ⨟ refuseIf 11 0 (readable full k (length mask) (length sums) (length squares) && impossibleIn (length mask) full k (seen mask sums) (seen mask squares))
+      ⨟ refuseIf 14 0 (leb (2 ^ 53) numerator)
+      ≡ varianceVerdict w h full k mask sums squares
+  unfolding varianceVerdict
+  judged count numerator n p =
+      then-same (shapeOf w h full) (λ legal. then-same (refuseIf 3 0 (badCount k)) (λ good.
+      measured (sitesOf w h) (length mask) (λ m.
+      measured (sitesOf w h) (length sums) (λ s. measured (sitesOf w h) (length squares) (λ q.
+      let r = readable-whole w h full k mask sums squares (shape-clear w h full legal .1 .high) (good-count k (unless 3 0 (badCount k) good)) m s q in
+      rw (codes-whole w h mask m, n, p, r, m))))))
+
+  -- what is known of the sums of an accepted call
+  pub record Accepted : Type 0 where
+    pub masked : length mask ≡ sitesOf w h
+    pub legible : readable full k (length mask) (length sums) (length squares) ≡ true
+    pub bright : full ≤ 4095
+    pub most : k ≤ 100
+    pub least : 2 ≤ k
+    pub some : 0 < sumTo (sitesOf w h) (one mask)
+    pub possible : (i : ℕ) → i < sitesOf w h → Possible full k (seen mask sums i) (seen mask squares i)
+
+  pub accepted : varianceVerdict w h full k mask sums squares ≡ verdict.Clear → Accepted
+  accepted e =
+      let p₂ = passed-tail (table .clear e) in
+      let p₃ = passed-tail p₂ in
+      let p₄ = passed-tail p₃ in
+      let s₄ = passed-tail p₄ in
+      let q₄ = passed-tail s₄ in
+      let p₇ = passed-tail (passed-tail q₄) in
+      let n = sitesOf w h in
+      let m = same-length n (length mask) (passed-head p₄) in
+      let bright = scale full (passed-head p₂) .high in
+      let most = good-count k (passed-head p₃) in
+      let both = enough (sumTo n (one mask)) k (passed-head p₇) in
+      record {
+        masked = m;
+        legible = readable-whole w h full k mask sums squares bright most m (same-length n (length sums) (passed-head s₄)) (same-length n (length squares) (passed-head q₄));
+        bright = bright;
+        most = most;
+        least = both .1;
+        some = both .0;
+        possible = all-possible n full k (seen mask sums) (seen mask squares) (passed-head (passed-tail p₇));
+      }
+
+  -- so the quotient is of two numbers that have exact floats
+  module _ (a : Accepted) where
+    pub few-enough : sumTo (sitesOf w h) (one mask) ≤ 16384
+    few-enough = omega (arith, surveyed-few mask (sitesOf w h), sites-few w h)
+
+    pub ranged : Ranged (spread (sitesOf w h) k (seen mask sums) (seen mask squares)) (sumTo (sitesOf w h) (one mask) * (k * k))
+    ranged =
+        let square = times-le k k 100 100 (a .most) (a .most) in
+        let frames : 0 < k = omega (arith, a .least) in
+        record {
+          top = omega (arith, spread-exact (sitesOf w h) full k (seen mask sums) (seen mask squares) (sites-few w h) (a .bright) (a .most) (a .possible));
+          some = mul-pos (a .some) (mul-pos frames frames);
+          bottom = omega (arith, times-le (sumTo (sitesOf w h) (one mask)) (k * k) 16384 10000 few-enough square);
+        }
+
+  pub refused-is : (r : Refusal) → varianceVerdict w h full k mask sums squares ≡ verdict.Refused r
+      → (Refused r ≡ varianceAnswer w h full k mask sums squares) × (variancePaperOf (Refused r) ≡ variancePaper w h full k mask sums squares)
+  unfolding varianceAnswer variancePaper
+  refused-is r e = rw e (refl, refl)
+
+  -- what is answered of the count and the numerator that were judged
+  module _ (clear : varianceVerdict w h full k mask sums squares ≡ verdict.Clear) (count p : ℕ)
+    (n : count ≡ sumTo (length mask) (one mask))
+    (e : p ≡ cond (readable full k (length mask) (length sums) (length squares)) (spread (length mask) k (seen mask sums) (seen mask squares)) 0) where
+    known : Accepted
+    known = accepted clear
+
+    counted : count ≡ sumTo (sitesOf w h) (one mask)
+    counted = n ∙ ap (λ (m : ℕ). sumTo m (one mask)) (known .masked)
+
+    numerator : p ≡ spread (sitesOf w h) k (seen mask sums) (seen mask squares)
+    numerator = e ∙ rw (known .legible, known .masked)
+
+    pub frames-fit : k * k ≤ 10000
+    frames-fit = times-le k k 100 100 (known .most) (known .most)
+
+    pub denominator-fits : count * (k * k) ≤ 16384 * 10000
+    denominator-fits = times-le count (k * k) 16384 10000 (omega (arith, counted, few-enough known)) frames-fit
+
+    pub accepted-is : (v : Float) → v ≡ quotientOrZero p (count * (k * k))
+        → (Figures p (count * (k * k)) v ≡ varianceAnswer w h full k mask sums squares)
+        × (variancePaperOf (Figures p (count * (k * k)) v) ≡ variancePaper w h full k mask sums squares)
+    unfolding varianceAnswer variancePaper
+    accepted-is v q =
+        let one-rounding = ranged-quotient (spread (sitesOf w h) k (seen mask sums) (seen mask squares)) (sumTo (sitesOf w h) (one mask) * (k * k)) (ranged known) in
+        rw (q, clear, numerator, counted, one-rounding) (refl, refl)
