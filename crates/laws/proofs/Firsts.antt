@@ -9,7 +9,7 @@ use native.Mathlib.Omega.{arith}
 use lib.Dec.{ltb}
 use borrow.Author.Tests.{lt-ltb, le-ltb, ltb-false}
 use Rattle.laws.specs.First.{firstTo}
-use Rattle.laws.proofs.Cases.{lt-or-ge, true-or-false}
+use Rattle.laws.proofs.Cases.{lt-or-ge, true-or-false, not-both}
 
 module _ (test : ℕ → Bool) where
   -- where a search begins
@@ -72,3 +72,11 @@ module _ (test : ℕ → Bool) where
   -- where nothing is found, the test holds nowhere
   pub first-nowhere : (n : ℕ) → ltb (firstTo n test) n ≡ false → (i : ℕ) → i < n → test i ≡ false
   first-nowhere n e i l = first-before n i (omega (arith, ltb-false (firstTo n test) n e))
+
+  -- and where it holds nowhere, nothing is found
+  pub nowhere-first : (n : ℕ) → ((i : ℕ) → i < n → test i ≡ false) → ltb (firstTo n test) n ≡ false
+  nowhere-first n none =
+      ⊎-elim
+      (λ l. absurd (not-both (first-holds n l) (none (firstTo n test) l)))
+      (λ g. le-ltb (firstTo n test) n g)
+      (lt-or-ge (firstTo n test) n)

@@ -2,3 +2,4 @@ pub mod Sites
 pub mod Turns
 pub mod Adds
 pub mod Variances
+pub mod Runs

@@ -1,5 +1,5 @@
 -- Document 01, "Stack": frames added one after the other, from zero sums, with one shape, mask and full scale throughout.
-use Prim.Native.Nat.{ℕ, zero, suc, _+_, _*_}
+use Prim.Native.Nat.{ℕ, _+_}
 use mathlib.Core.List.{List, [], _∷_}
 use Rattle.laws.specs.Table.{tabulate}
 use Rattle.window.specs.Shape.{sitesOf}
@@ -27,7 +27,7 @@ module _ (w h full : ℕ) (mask : List ℕ) where
     squares = addSquares w h full (s .frames) mask frame (s .sums) (s .squares);
   }
 
-  -- a run of frames, the last of the list offered first
+  -- a run of frames: the head of the list is the newest
   unfoldable pub run : List (List ℕ) → Stack
   run [] = empty (sitesOf w h)
   run (frame ∷ frames) = offered (run frames) frame
