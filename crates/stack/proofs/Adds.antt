@@ -1,30 +1,25 @@
 -- The verdict on a frame that is offered, and what it makes of the answer and the sums.
 use Prim.Native.Nat.{ℕ, min, _+_, _*_, _^_, _≤_, _<_}
-use mathlib.Core.Bool.{Bool, true, false, _&&_}
+use mathlib.Core.Bool.{_&&_}
 use mathlib.Core.List.{List, [], _∷_}
-use mathlib.Core.Path.{_≡_, refl, sym, ap, _∙_}
+use mathlib.Core.Path.{_≡_, refl, _∙_}
 use native.Mathlib.Omega.{arith}
 use lib.Dec.{eqb, ltb}
 use lib.ListN.{length, getD}
-use mir.Syntax.{w32}
-use mir.Val.{Fits}
 use borrow.Author.Tests.{ltb-false, eqb-false}
-use Rattle.laws.specs.First.{firstTo}
 use Rattle.laws.proofs.Cases.{times-le}
-use Rattle.laws.proofs.Firsts.{first-nowhere}
 use Rattle.window.specs.Shape.{badSides, badScale, sitesOf}
-use Rattle.window.specs.View.{badCode, above, seenAt, seen}
+use Rattle.window.specs.View.{badCode, above, seen}
 use Rattle.window.specs.Verdict.{_⨟_, refuseIf, refuseFirst}
 use Rattle.window.specs.Judge.{shapeOf, otherThan, codesOf, samplesOf, walked}
 use Rattle.window.specs.declared.Refusal.{Refusal}
-use Rattle.window.specs.declared.Verdict.{Verdict}
 use Rattle.window.specs.declared.Verdict.the-variants as verdict
-use Rattle.window.proofs.Sides.{scale, sites-few}
+use Rattle.window.proofs.Sides.{scale}
 use Rattle.window.proofs.Verdicts.{Test, Tabled, test, testFirst, tabled, passed-head, passed-tail, then-same, unless}
 use Rattle.window.proofs.Views.{seen-is, seen-out}
 use Rattle.window.proofs.Chains.{shape-then, shape-clear, same-length, in-range, measured, codes-whole, samples-whole}
-use Rattle.stack.specs.Sums.{impossible, impossibleAt, impossibleIn, squared, added, readable}
-use Rattle.stack.specs.Add.{addVerdict, counted, addAnswer, addPaperOf, addPaper, addSums, addSquares}
+use Rattle.stack.specs.Sums.{impossibleIn, squared, added, readable}
+use Rattle.stack.specs.Add.{addVerdict, addAnswer, addPaperOf, addPaper, addSums, addSquares}
 use Rattle.stack.specs.declared.Added.the-variants.{Frames, Refused}
 use Rattle.stack.proofs.Sites.{Possible, readable-whole, all-possible}
 use Rattle.stack.proofs.Turns.{leaves-room}

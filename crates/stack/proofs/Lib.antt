@@ -3,3 +3,4 @@ pub mod Turns
 pub mod Adds
 pub mod Variances
 pub mod Runs
+pub mod Promises

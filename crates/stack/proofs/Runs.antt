@@ -1,14 +1,14 @@
 -- Runs of frames from zero sums: what the sums are, why every run of frames in range is accepted, and why no order matters.
 use Prim.Native.Nat.{ℕ, zero, suc, _+_, _-_, _*_, _^_, _≤_, _<_}
-use mathlib.Core.Bool.{Bool, true, false, not}
+use mathlib.Core.Bool.{false, not}
 use mathlib.Core.List.{List, [], _∷_, List·Permᴰ, List·Permᴰ·nil, List·Permᴰ·cons, List·Permᴰ·swap, List·Permᴰ·trans}
 use mathlib.Core.Logic.{⊎-elim}
 use mathlib.Core.Path.{_≡_, refl, sym, ap, ap₂, _∙_, subst}
-use native.Mathlib.Nat.{suc-mul, zero-mul}
+use native.Mathlib.Nat.{suc-mul, zero-mul, mul-assoc, mul-mul-mul-comm}
 use native.Mathlib.Numerals.{add-one}
 use native.Mathlib.Omega.{arith}
-use lib.Dec.{eqb, ltb, leb}
-use lib.ListN.{length, getD, replicate, length-replicate}
+use lib.Dec.{ltb}
+use lib.ListN.{length, getD, replicate}
 use borrow.Author.Tests.{le-ltb, eq-eqb, ne-eqb, lt-leb, eqb-true, eqb-false}
 use Rattle.laws.specs.First.{firstTo}
 use Rattle.laws.specs.Sum.{sumTo}
@@ -18,10 +18,9 @@ use Rattle.laws.proofs.Firsts.{nowhere-first}
 use Rattle.laws.proofs.Sums.{sum-ext, sum-zero}
 use Rattle.laws.proofs.Tables.{length-tabulate, getD-tabulate, tabulate-ext}
 use Rattle.window.specs.Shape.{badSides, badScale, sitesOf}
-use Rattle.window.specs.View.{badCode, above, surveyed, seenAt, seen, one}
-use Rattle.window.specs.Verdict.{_⨟_, refuseIf}
+use Rattle.window.specs.View.{badCode, above, surveyed, seen, one}
+use Rattle.window.specs.Verdict.{_⨟_}
 use Rattle.window.specs.Judge.{otherThan}
-use Rattle.window.specs.declared.Verdict.{Verdict}
 use Rattle.window.specs.declared.Verdict.the-variants as verdict
 use Rattle.window.proofs.Sides.{scale, sites-few}
 use Rattle.window.proofs.Verdicts.{end, past, passed-head, passed-tail, then-clear}
@@ -30,7 +29,7 @@ use Rattle.window.proofs.Chains.{legal-codes}
 use Rattle.stack.specs.Sums.{impossibleAt, impossibleIn, squared, added, spread}
 use Rattle.stack.specs.Add.{addVerdict, addSums, addSquares}
 use Rattle.stack.specs.Variance.{badCount, tooFew, varianceVerdict}
-use Rattle.stack.specs.Run.{Stack, empty, offered, run, runVerdict, overFrames}
+use Rattle.stack.specs.Run.{Stack, offered, run, runVerdict, overFrames}
 use Rattle.stack.proofs.Sites.{Possible, is-possible, possible-none, possible-more}
 use Rattle.stack.proofs.Adds as adds
 use Rattle.stack.proofs.Variances as variances
@@ -281,3 +280,22 @@ module _ (w h full : ℕ) (mask : List ℕ) where
       exact : spread (sitesOf w h) (length fs) (sumAt mask fs) (squareAt mask fs) < 2 ^ 53
       exact =
           variances.spread-exact (sitesOf w h) full (length fs) (sumAt mask fs) (squareAt mask fs) (sites-few w h) (scale full (a .scale) .high) most (possible-at fs r)
+
+-- k equal samples p have k × (k × p²) = (k × p)²
+equal-none : (k p : ℕ) → k * (k * (p * p)) - k * p * (k * p) ≡ 0
+equal-none k p = omega (arith, mul-mul-mul-comm k p k p, mul-assoc k k (p * p))
+
+pub equal-spread : (n k : ℕ) (mask frame : List ℕ) → spread n k (sumAt mask (replicate k frame)) (squareAt mask (replicate k frame)) ≡ 0
+unfolding spread
+equal-spread n k mask frame =
+    sum-zero n (λ (i : ℕ). k * squareAt mask (replicate k frame) i - sumAt mask (replicate k frame) i * sumAt mask (replicate k frame) i)
+    (λ i l. rw (over-repeated k frame (λ (f : List ℕ). seen mask f i), over-repeated k frame (λ (f : List ℕ). squared (seen mask f) i)) (equal-none k (seen mask frame i)))
+
+-- the order of frames is not in their stack
+pub same-stack : (w h full : ℕ) (mask : List ℕ) {fs gs : List (List ℕ)} → Reordered fs gs → stackOf w h full mask fs ≡ stackOf w h full mask gs
+same-stack w h full mask {fs} {gs} order =
+    rw (
+      as-many order,
+      tabulate-ext (sitesOf w h) (sumAt mask fs) (sumAt mask gs) (λ i l. over-order (λ (f : List ℕ). seen mask f i) order),
+      tabulate-ext (sitesOf w h) (squareAt mask fs) (squareAt mask gs) (λ i l. over-order (λ (f : List ℕ). squared (seen mask f) i) order),
+    )

@@ -7,17 +7,18 @@ use mathlib.Core.Path.{_≡_, sym, ap, ap₂, _∙_}
 use native.Mathlib.Nat.{le-refl}
 use native.Mathlib.Omega.{arith}
 use lib.Dec.{ltb}
-use lib.ListN.{length, getD, set}
+use lib.ListN.{length, getD, set, List·getD-eq-default}
 use borrow.Author.Tests.{eqb-true, eqb-false}
 use Rattle.laws.specs.First.{firstTo}
-use Rattle.laws.proofs.Cases.{true-or-false}
+use Rattle.laws.specs.Table.{tabulate}
+use Rattle.laws.proofs.Cases.{lt-or-ge, true-or-false}
 use Rattle.laws.proofs.Sums.{sum-none, sum-more}
-use Rattle.laws.proofs.Tables.{Filling, filling-rest, filling-more}
+use Rattle.laws.proofs.Tables.{Filling, filling-rest, filling-more, length-tabulate, getD-tabulate}
 use Rattle.window.specs.View.{surveyed, seenAt, seen}
 use Rattle.window.specs.Verdict.{refuseIf}
 use Rattle.window.specs.declared.Verdict.the-variants.{Clear}
 use Rattle.window.proofs.Views.{seen-is, seen-in}
-use Rattle.stack.specs.Sums.{impossible, impossibleAt, impossibleIn, spread, readable}
+use Rattle.stack.specs.Sums.{impossible, impossibleAt, impossibleIn, added, spread, readable}
 
 module _ (view : ℕ → ℕ) {d l : List ℕ} {i v : ℕ} (so-far : Filling (λ (k : ℕ). getD d k 0 + view k) d l i) (here : v ≡ view i) where
   stored : getD l i 0 + v ≡ getD d i 0 + view i
@@ -72,3 +73,27 @@ leaves-room code s v b fits sum none small =
     (λ t. omega (arith, seen-in code s (eqb-true code 0 t)))
     (λ t. omega (arith, none (eqb-false code 0 t)))
     (true-or-false (surveyed code))
+
+-- what is added at a site depends on what stands there
+pub added-at : (view : ℕ → ℕ) (sums : List ℕ) (i : ℕ) → i < length sums → getD (added view sums) i 0 ≡ getD sums i 0 + view i
+unfolding added
+added-at view sums i l = getD-tabulate (length sums) (λ (k : ℕ). getD sums k 0 + view k) i l
+
+added-past : (view : ℕ → ℕ) (sums : List ℕ) (i : ℕ) → length sums ≤ i → getD (added view sums) i 0 ≡ 0
+unfolding added
+added-past view sums i g =
+    List·getD-eq-default (tabulate (length sums) (λ (k : ℕ). getD sums k 0 + view k)) 0 {n = i} (omega (arith, length-tabulate (length sums) (λ (k : ℕ). getD sums k 0 + view k)))
+
+pub added-same : (view : ℕ → ℕ) (a b : List ℕ) (i : ℕ) → length a ≡ length b → getD a i 0 ≡ getD b i 0 → getD (added view a) i 0 ≡ getD (added view b) i 0
+added-same view a b i long same =
+    ⊎-elim
+    (λ (l : i < length a). added-at view a i l ∙ ap (λ (x : ℕ). x + view i) same ∙ sym (added-at view b i (omega arith)))
+    (λ (g : length a ≤ i). added-past view a i g ∙ sym (added-past view b i (omega arith)))
+    (lt-or-ge i (length a))
+
+pub added-keeps : (view : ℕ → ℕ) (sums : List ℕ) (i : ℕ) → view i ≡ 0 → getD (added view sums) i 0 ≡ getD sums i 0
+added-keeps view sums i none =
+    ⊎-elim
+    (λ (l : i < length sums). omega (arith, added-at view sums i l))
+    (λ (g : length sums ≤ i). added-past view sums i g ∙ sym (List·getD-eq-default sums 0 {n = i} g))
+    (lt-or-ge i (length sums))

@@ -1,14 +1,14 @@
 -- The verdict on a stack's variance, and what it makes of the answer.
-use Prim.Native.Nat.{ℕ, _+_, _-_, _*_, _^_, _≤_, _<_}
-use mathlib.Core.Bool.{Bool, true, false, _&&_, cond}
+use Prim.Native.Nat.{ℕ, _-_, _*_, _^_, _≤_, _<_}
+use mathlib.Core.Bool.{true, false, _&&_, cond}
 use mathlib.Core.List.{List, [], _∷_}
-use mathlib.Core.Path.{_≡_, refl, sym, ap, _∙_}
+use mathlib.Core.Path.{_≡_, refl, ap, _∙_}
 use native.Mathlib.Nat.{mul-pos}
 use native.Mathlib.Omega.{arith}
 use lib.Dec.{eqb, ltb, leb}
 use lib.Ieee.{Float}
-use lib.ListN.{length, getD}
-use borrow.Author.Tests.{ltb-false, eqb-false, leb-false}
+use lib.ListN.{length}
+use borrow.Author.Tests.{ltb-false, eqb-false}
 use Rattle.laws.specs.Sum.{sumTo}
 use Rattle.laws.proofs.Cases.{neither, times-le}
 use Rattle.laws.proofs.Sums.{sum-le}
@@ -19,14 +19,13 @@ use Rattle.window.specs.View.{badCode, seen, one}
 use Rattle.window.specs.Verdict.{_⨟_, refuseIf, refuseFirst}
 use Rattle.window.specs.Judge.{shapeOf, otherThan, codesOf, walked}
 use Rattle.window.specs.declared.Refusal.{Refusal}
-use Rattle.window.specs.declared.Verdict.{Verdict}
 use Rattle.window.specs.declared.Verdict.the-variants as verdict
 use Rattle.window.proofs.Sides.{scale, sites-few}
 use Rattle.window.proofs.Verdicts.{Test, Tabled, test, testFirst, tabled, passed-head, passed-tail, then-same, unless}
 use Rattle.window.proofs.Views.{surveyed-few}
 use Rattle.window.proofs.Chains.{shape-then, shape-clear, same-length, measured, codes-whole}
 use Rattle.stack.specs.Sums.{impossibleIn, spread, readable}
-use Rattle.stack.specs.Variance.{badCount, tooFew, varianceVerdict, figured, varianceAnswer, variancePaperOf, variancePaper}
+use Rattle.stack.specs.Variance.{badCount, tooFew, varianceVerdict, varianceAnswer, variancePaperOf, variancePaper}
 use Rattle.stack.specs.declared.Variance.the-variants.{Figures, Refused}
 use Rattle.stack.proofs.Sites.{Possible, readable-whole, all-possible}
 
@@ -153,8 +152,8 @@ module _ (w h full k : ℕ) (mask sums squares : List ℕ) where
 
   -- what is answered of the count and the numerator that were judged
   module _ (clear : varianceVerdict w h full k mask sums squares ≡ verdict.Clear) (count p : ℕ)
-    (n : count ≡ sumTo (length mask) (one mask))
-    (e : p ≡ cond (readable full k (length mask) (length sums) (length squares)) (spread (length mask) k (seen mask sums) (seen mask squares)) 0) where
+      (n : count ≡ sumTo (length mask) (one mask))
+      (e : p ≡ cond (readable full k (length mask) (length sums) (length squares)) (spread (length mask) k (seen mask sums) (seen mask squares)) 0) where
     known : Accepted
     known = accepted clear
 

@@ -68,13 +68,24 @@ fn impossible(full_scale: u64, frames: u64, sum: u32, square: u32) -> bool
 }
 
 // The first site whose sums cannot come from so many frames, or the number of sites.
-fn first_impossible(full_scale: u64, frames: u64, mask: &[u8], sums: &[u32], squares: &[u32]) -> usize
+fn first_impossible(
+    full_scale: u64,
+    frames: u64,
+    mask: &[u8],
+    sums: &[u32],
+    squares: &[u32],
+) -> usize
     requires { ⌜ readable «full_scale» frames (length (now mask)) (length (now sums)) (length (now squares)) ≡ true ⌝ }
     ensures { λ r. ⌜ r ≡ firstTo (length (now (mask .entry))) (impossibleAt «full_scale» frames (seen (now (mask .entry)) (now (sums .entry))) (seen (now (mask .entry)) (now (squares .entry)))) ⌝ }
 {
     let mut at: usize = 0;
     while at < mask.len() {
-        if impossible(full_scale, frames, sum_at(mask[at], sums[at]), sum_at(mask[at], squares[at])) {
+        if impossible(
+            full_scale,
+            frames,
+            sum_at(mask[at], sums[at]),
+            sum_at(mask[at], squares[at]),
+        ) {
             return at;
         }
         at += 1;
@@ -161,7 +172,16 @@ pub fn stack_add(
     ensures sums { λ r. ⌜ now (sums .exit) ≡ addSums width height «full_scale» frames (now (mask .entry)) (now (frame .entry)) (now (sums .entry)) (now (squares .entry)) ⌝ }
     ensures squares { λ r. ⌜ now (squares .exit) ≡ addSquares width height «full_scale» frames (now (mask .entry)) (now (frame .entry)) (now (sums .entry)) (now (squares .entry)) ⌝ }
 {
-    match judge_frame(width, height, full_scale, frames, mask, frame, sums, squares) {
+    match judge_frame(
+        width,
+        height,
+        full_scale,
+        frames,
+        mask,
+        frame,
+        sums,
+        squares,
+    ) {
         Verdict::Refused(refusal) => Added::Refused(refusal),
         Verdict::Clear => {
             add_seen(mask, frame, sums, squares);
@@ -198,7 +218,11 @@ fn sum_excess(frames: u64, mask: &[u8], sums: &[u32], squares: &[u32]) -> u64
 {
     let mut total: u64 = 0;
     for i in 0..mask.len() {
-        total += excess(frames, sum_at(mask[i], sums[i]), sum_at(mask[i], squares[i]));
+        total += excess(
+            frames,
+            sum_at(mask[i], sums[i]),
+            sum_at(mask[i], squares[i]),
+        );
     }
     total
 }
@@ -246,7 +270,10 @@ fn judge_stack(
     let inexact = window::refuse_if(14, 0, EXACT <= numerator);
     let sites = window::then(codes, window::then(few, window::then(odd, inexact)));
     let stack_long = window::then(sums_long, window::then(squares_long, sites));
-    window::then(shape, window::then(bad, window::then(mask_long, stack_long)))
+    window::then(
+        shape,
+        window::then(bad, window::then(mask_long, stack_long)),
+    )
 }
 
 // The variance of a stack of `frames` frames.
@@ -264,7 +291,17 @@ pub fn stack_variance(
 {
     let count = window::surveyed(mask);
     let numerator = spread(full_scale, frames, mask, sums, squares);
-    match judge_stack(width, height, full_scale, frames, mask, sums, squares, count, numerator) {
+    match judge_stack(
+        width,
+        height,
+        full_scale,
+        frames,
+        mask,
+        sums,
+        squares,
+        count,
+        numerator,
+    ) {
         Verdict::Refused(refusal) => Variance::Refused(refusal),
         Verdict::Clear => {
             let denominator = count * (frames * frames);

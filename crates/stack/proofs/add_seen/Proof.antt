@@ -1,21 +1,17 @@
+-- `add_seen` is right because each turn adds to one sum and to one sum of squares what is seen at their site, and every sum has room.
+use Prim.Native.Nat.{ℕ, _+_, _*_, _-_, _≤_}
+use mathlib.Core.Path.{_≡_, refl, sym, ap₂, _∙_}
+use native.Mathlib.Omega.{arith}
+use lib.ListN.{length, getD}
+use borrow.Author.Needs.{needs}
 use Rattle.stack.proofs.Turns.{has-room, one-added}
 use Rattle.stack.specs.Sums.{squared, added}
 use Rattle.window.proofs.Views.{seen-is}
 use Rattle.window.specs.View.{seen}
 use Rattle.laws.proofs.Tables.{Filling, filling-none, filling-done}
 use Rattle.laws.proofs.Cases.{times-le}
-use lib.ListN.{length, getD, length-set}
-use native.Mathlib.Omega.{arith}
-use mathlib.Core.Path.{_≡_, refl, sym, ap, ap₂, _∙_}
-use Prim.Native.Nat.{ℕ, _+_, _*_, _-_, _≤_}
--- `add_seen` is right because each turn adds to one sum and to one sum of squares what is seen at their site, and every sum has room.
-use borrow.Author.Needs.{needs}
 use Rattle.stack.proofs.add_seen.Statement.{statement}
 use Rattle.stack.proofs.add_seen.Tie as tie
-use Rattle.stack.proofs.add_seen.Reads as reads
-use Rattle.stack.proofs.add_seen.Lts as lts
-use Rattle.stack.proofs.wide.Reads as wide-reads
-use Rattle.window.proofs.seen_at.Reads as seen-at-reads
 
 abbrev Inv-loop : tie.InvT-loop
 Inv-loop mask frame sums₀ squares₀ i₀ i-end sums squares i = (i ≤ length mask)
@@ -40,99 +36,76 @@ squared-here : (c : tie.After-wide Inv-loop μ-loop)
     → c .wide .result * c .wide .result ≡ squared (seen (Begun (Turn c) .args .mask .now) (Begun (Turn c) .args .frame .now)) (Turn c .loop .i)
 squared-here c = ap₂ (λ (x y : ℕ). x * y) (seen-here c) (seen-here c)
 
--- src/lib.rt:128:5
 loop-holds : tie.Need-loop-holds Inv-loop μ-loop
 loop-holds c = (omega arith, filling-none _ _, filling-none _ _)
 
--- src/lib.rt:129:43
 shared-slice-read-seen-at : tie.Need-shared-slice-read-seen-at Inv-loop μ-loop
 shared-slice-read-seen-at c = omega arith
 
--- src/lib.rt:129:52
 mul-seen-at : tie.Need-mul-seen-at Inv-loop μ-loop
 mul-seen-at c = omega arith
 
--- src/lib.rt:129:52
 shared-slice-read-seen-at-2 : tie.Need-shared-slice-read-seen-at-2 Inv-loop μ-loop
 shared-slice-read-seen-at-2 c = omega arith
 
--- src/lib.rt:129:27
 seen-at-requires : tie.Need-seen-at-requires Inv-loop μ-loop
 seen-at-requires c κs = search needs
 
--- src/lib.rt:129:13
 wide-requires : tie.Need-wide-requires Inv-loop μ-loop
 wide-requires c κs = search needs
 
--- src/lib.rt:130:19
 mul-sums : tie.Need-mul-sums Inv-loop μ-loop
 mul-sums c = omega arith
 
--- src/lib.rt:130:19
 slice-read-sums : tie.Need-slice-read-sums Inv-loop μ-loop
 slice-read-sums c = omega arith
 
--- src/lib.rt:130:19
 add-sums : tie.Need-add-sums Inv-loop μ-loop
 add-sums c = let t = Turn (c .before) in
     omega (arith, has-room _ (t .loop .inv .1) (seen-here (c .before)) (Begun t .pre .3 (t .loop .i) (omega arith)))
 
--- src/lib.rt:130:9
 mul-sums-2 : tie.Need-mul-sums-2 Inv-loop μ-loop
 mul-sums-2 c = omega arith
 
--- src/lib.rt:130:9
 slice-write-sums : tie.Need-slice-write-sums Inv-loop μ-loop
 slice-write-sums c = omega arith
 
--- src/lib.rt:131:22
 mul-squares : tie.Need-mul-squares Inv-loop μ-loop
 mul-squares c = omega arith
 
--- src/lib.rt:131:22
 slice-read-squares : tie.Need-slice-read-squares Inv-loop μ-loop
 slice-read-squares c = omega arith
 
--- src/lib.rt:131:35
 mul-squares-2 : tie.Need-mul-squares-2 Inv-loop μ-loop
 mul-squares-2 c = let r = c .before .before .wide .result in
     omega (arith, times-le r r 65535 65535 (omega (arith, c .before .before .wide .ensures)) (omega (arith, c .before .before .wide .ensures)))
 
--- src/lib.rt:131:22
 add-squares : tie.Need-add-squares Inv-loop μ-loop
 add-squares c = let t = Turn (c .before .before) in
     omega (arith, has-room _ (t .loop .inv .2) (squared-here (c .before .before)) (Begun t .pre .4 (t .loop .i) (omega arith)))
 
--- src/lib.rt:131:9
 mul-squares-3 : tie.Need-mul-squares-3 Inv-loop μ-loop
 mul-squares-3 c = omega arith
 
--- src/lib.rt:131:9
 slice-write-squares : tie.Need-slice-write-squares Inv-loop μ-loop
 slice-write-squares c = omega arith
 
--- src/lib.rt:128:9
 add-i : tie.Need-add-i Inv-loop μ-loop
 add-i c = omega arith
 
--- src/lib.rt:128:5
 loop-less : tie.Need-loop-less Inv-loop μ-loop
 loop-less c = omega arith
 
--- src/lib.rt:128:5
 loop-again : tie.Need-loop-again Inv-loop μ-loop
 loop-again c = let t = Turn (c .before .before) in
     (omega arith, one-added _ (t .loop .inv .1) (seen-here (c .before .before)) (omega arith), one-added _ (t .loop .inv .2) (squared-here (c .before .before)) (omega arith))
 
--- src/lib.rt:121:1
 same-length : tie.Need-same-length Inv-loop μ-loop
 same-length c = search needs
 
--- src/lib.rt:121:1
 same-length-2 : tie.Need-same-length-2 Inv-loop μ-loop
 same-length-2 c = search needs
 
--- src/lib.rt:121:1
 returns : tie.Need-returns Inv-loop μ-loop
 unfolding added
 returns c = (filling-done _ (c .before .loop .inv .1) (omega arith) refl, filling-done _ (c .before .loop .inv .2) (omega arith) refl)

@@ -1,22 +1,17 @@
+-- `first_impossible` is right because the sums at every site passed can come from so many frames: it stops at the first that cannot, or past the last.
+use Prim.Native.Nat.{ℕ, _-_, _≤_}
+use mathlib.Core.Path.{_≡_, sym, ap, _∙_}
+use native.Mathlib.Omega.{arith}
+use lib.ListN.{length}
+use borrow.Author.Needs.{needs}
 use Rattle.stack.proofs.Turns.{asked-here}
 use Rattle.stack.proofs.Sites.{Readable, readable-is}
 use Rattle.stack.specs.Sums.{impossibleAt}
 use Rattle.window.specs.View.{seen}
 use Rattle.laws.proofs.Firsts.{first-none, first-past, first-here}
 use Rattle.laws.specs.First.{firstTo}
-use lib.ListN.{length}
-use native.Mathlib.Omega.{arith}
-use mathlib.Core.Path.{_≡_, sym, ap, _∙_}
-use mathlib.Core.Bool.{Bool}
-use Prim.Native.Nat.{ℕ, _-_, _≤_}
--- `first_impossible` is right because the sums at every site passed can come from so many frames: it stops at the first that cannot, or past the last.
-use borrow.Author.Needs.{needs}
 use Rattle.stack.proofs.first_impossible.Statement.{statement}
 use Rattle.stack.proofs.first_impossible.Tie as tie
-use Rattle.stack.proofs.first_impossible.Reads as reads
-use Rattle.stack.proofs.first_impossible.Lts as lts
-use Rattle.stack.proofs.impossible.Reads as impossible-reads
-use Rattle.stack.proofs.sum_at.Reads as sum-at-reads
 
 abbrev Inv-loop : tie.InvT-loop
 Inv-loop full-scale frames mask sums squares at₀ at = (at ≤ length mask) × (firstTo at (impossibleAt full-scale frames (seen mask sums) (seen mask squares)) ≡ at)
@@ -40,65 +35,50 @@ asked : (c : tie.After-impossible Inv-loop μ-loop)
     ≡ c .impossible .result
 asked c = asked-here _ _ _ _ _ _ _ _ _ (c .impossible .ensures) (c .before .before .before .before .sum-at .ensures) (c .before .sum-at2 .ensures)
 
--- src/lib.rt:63:5
 loop-holds : tie.Need-loop-holds Inv-loop μ-loop
 loop-holds c = (omega arith, first-none _)
 
--- src/lib.rt:64:50
 shared-slice-read-sum-at : tie.Need-shared-slice-read-sum-at Inv-loop μ-loop
 shared-slice-read-sum-at c = omega arith
 
--- src/lib.rt:64:60
 mul-sum-at : tie.Need-mul-sum-at Inv-loop μ-loop
 mul-sum-at c = omega (arith, legal (c .before))
 
--- src/lib.rt:64:60
 shared-slice-read-sum-at-2 : tie.Need-shared-slice-read-sum-at-2 Inv-loop μ-loop
 shared-slice-read-sum-at-2 c = omega (arith, legal (c .before .before) .long)
 
--- src/lib.rt:64:43
 sum-at-requires : tie.Need-sum-at-requires Inv-loop μ-loop
 sum-at-requires c κs = search needs
 
--- src/lib.rt:64:78
 shared-slice-read-sum-at-3 : tie.Need-shared-slice-read-sum-at-3 Inv-loop μ-loop
 shared-slice-read-sum-at-3 c = omega arith
 
--- src/lib.rt:64:88
 mul-sum-at-2 : tie.Need-mul-sum-at-2 Inv-loop μ-loop
 mul-sum-at-2 c = omega (arith, legal (c .before .before .before .before) .square-long)
 
--- src/lib.rt:64:88
 shared-slice-read-sum-at-4 : tie.Need-shared-slice-read-sum-at-4 Inv-loop μ-loop
 shared-slice-read-sum-at-4 c = omega (arith, legal (c .before .before .before .before .before) .square-long)
 
--- src/lib.rt:64:71
 sum-at-requires-2 : tie.Need-sum-at-requires-2 Inv-loop μ-loop
 sum-at-requires-2 c κs = search needs
 
--- src/lib.rt:64:12
 impossible-requires : tie.Need-impossible-requires Inv-loop μ-loop
 impossible-requires c κs = let r = legal (c .before .before .before .before .before .before) in (r .scale, r .count)
 
--- src/lib.rt:65:13
 returns : tie.Need-returns Inv-loop μ-loop
 returns c = let t = Turn (c .before) in
     sym (first-here _ _ _ (omega arith) (t .before .loop .inv .1) (asked (c .before) ∙ c .if1 .taken))
 
--- src/lib.rt:67:9
 add-at : tie.Need-add-at Inv-loop μ-loop
 add-at c = omega arith
 
--- src/lib.rt:63:5
 loop-less : tie.Need-loop-less Inv-loop μ-loop
 loop-less c = omega arith
 
--- src/lib.rt:63:5
 loop-again : tie.Need-loop-again Inv-loop μ-loop
 loop-again c = let t = Turn (c .before) in
     (omega arith, first-past _ _ (t .before .loop .inv .1) (asked (c .before) ∙ c .if1 .left))
 
--- src/lib.rt:58:1
 returns-2 : tie.Need-returns-2 Inv-loop μ-loop
 returns-2 c = let a = c .before .before .before .before .before .args in
     let e : c .before .loop .at ≡ length (a .mask .now) = omega arith in

@@ -1,107 +1,76 @@
+-- `judge_stack` is right because it asks the definition's tests in its order, and what it asks of buffers of another length comes after 4.
+use Prim.Native.Nat.{ℕ}
+use mathlib.Core.Path.{_≡_, ap, _∙_}
+use lib.ListN.{length}
+use borrow.Author.Needs.{needs}
 use Rattle.stack.proofs.Variances.{judged}
 use Rattle.window.proofs.Verdicts.{then-of}
 use Rattle.window.specs.Judge.{otherThan}
 use Rattle.window.specs.Verdict.{refuseIf}
 use Rattle.window.specs.Shape.{sitesOf}
-use lib.ListN.{length}
-use mathlib.Core.Path.{_≡_, ap, _∙_}
-use Prim.Native.Nat.{ℕ}
--- `judge_stack` is right because it asks the definition's tests in its order, and what it asks of buffers of another length comes after 4.
-use borrow.Author.Needs.{needs}
 use Rattle.stack.proofs.judge_stack.Statement.{statement}
 use Rattle.stack.proofs.judge_stack.Tie as tie
-use Rattle.stack.proofs.judge_stack.Reads as reads
-use Rattle.stack.proofs.judge_stack.Lts as lts
-use Rattle.stack.proofs.bad_count.Reads as bad-count-reads
-use Rattle.stack.proofs.possible.Reads as possible-reads
-use Rattle.stack.proofs.too_few.Reads as too-few-reads
-use Rattle.window.proofs.codes.Reads as codes-reads
-use Rattle.window.proofs.refuse_if.Reads as refuse-if-reads
-use Rattle.window.proofs.shape.Reads as shape-reads
-use Rattle.window.proofs.sites.Reads as sites-reads
-use Rattle.window.proofs.then.Reads as then-reads
 
--- src/lib.rt:237:9
 sites-requires : tie.Need-sites-requires
 sites-requires c κs = search needs
 
--- src/lib.rt:238:9
 shape-requires : tie.Need-shape-requires
 shape-requires c κs = search needs
 
--- src/lib.rt:239:39
 bad-count-requires : tie.Need-bad-count-requires
 bad-count-requires c κs = search needs
 
--- src/lib.rt:239:9
 refuse-if-requires : tie.Need-refuse-if-requires
 refuse-if-requires c κs = search needs
 
--- src/lib.rt:240:9
 refuse-if-requires-2 : tie.Need-refuse-if-requires-2
 refuse-if-requires-2 c κs = search needs
 
--- src/lib.rt:241:9
 refuse-if-requires-3 : tie.Need-refuse-if-requires-3
 refuse-if-requires-3 c κs = search needs
 
--- src/lib.rt:242:9
 refuse-if-requires-4 : tie.Need-refuse-if-requires-4
 refuse-if-requires-4 c κs = search needs
 
--- src/lib.rt:243:9
 codes-requires : tie.Need-codes-requires
 codes-requires c κs = search needs
 
--- src/lib.rt:244:39
 too-few-requires : tie.Need-too-few-requires
 too-few-requires c κs = search needs
 
--- src/lib.rt:244:9
 refuse-if-requires-5 : tie.Need-refuse-if-requires-5
 refuse-if-requires-5 c κs = search needs
 
--- src/lib.rt:245:9
 possible-requires : tie.Need-possible-requires
 possible-requires c κs = search needs
 
--- src/lib.rt:246:9
 refuse-if-requires-6 : tie.Need-refuse-if-requires-6
 refuse-if-requires-6 c κs = search needs
 
--- src/lib.rt:247:55
 then-requires : tie.Need-then-requires
 then-requires c κs = search needs
 
--- src/lib.rt:247:37
 then-requires-2 : tie.Need-then-requires-2
 then-requires-2 c κs = search needs
 
--- src/lib.rt:247:9
 then-requires-3 : tie.Need-then-requires-3
 then-requires-3 c κs = search needs
 
--- src/lib.rt:248:46
 then-requires-4 : tie.Need-then-requires-4
 then-requires-4 c κs = search needs
 
--- src/lib.rt:248:9
 then-requires-5 : tie.Need-then-requires-5
 then-requires-5 c κs = search needs
 
--- src/lib.rt:249:43
 then-requires-6 : tie.Need-then-requires-6
 then-requires-6 c κs = search needs
 
--- src/lib.rt:249:25
 then-requires-7 : tie.Need-then-requires-7
 then-requires-7 c κs = search needs
 
--- src/lib.rt:249:5
 then-requires-8 : tie.Need-then-requires-8
 then-requires-8 c κs = search needs
 
--- src/lib.rt:221:1
 returns : tie.Need-returns
 returns c = let sites = c .before .before .before .before .before in
     let inexact = sites .before .before .before in

@@ -1,35 +1,25 @@
+-- `possible` is right because it walks the sums that can be read, and asks nothing of any others.
+use mathlib.Core.Path.{sym, ap, _∙_}
+use borrow.Author.Needs.{needs}
 use Rattle.stack.proofs.Turns.{asked-all, not-asked}
 use Rattle.window.specs.Verdict.{refuseIf}
-use mathlib.Core.Path.{sym, ap, _∙_}
--- `possible` is right because it walks the sums that can be read, and asks nothing of any others.
-use borrow.Author.Needs.{needs}
 use Rattle.stack.proofs.possible.Statement.{statement}
 use Rattle.stack.proofs.possible.Tie as tie
-use Rattle.stack.proofs.possible.Reads as reads
-use Rattle.stack.proofs.possible.Lts as lts
-use Rattle.stack.proofs.first_impossible.Reads as first-impossible-reads
-use Rattle.stack.proofs.readable.Reads as readable-reads
-use Rattle.window.proofs.refuse_if.Reads as refuse-if-reads
 
--- src/lib.rt:89:8
 readable-requires : tie.Need-readable-requires
 readable-requires c κs = search needs
 
--- src/lib.rt:90:13
 first-impossible-requires : tie.Need-first-impossible-requires
 first-impossible-requires c κs = sym (c .before .readable .ensures) ∙ c .if1 .taken
 
--- src/lib.rt:91:9
 refuse-if-requires : tie.Need-refuse-if-requires
 refuse-if-requires c κs = search needs
 
--- src/lib.rt:91:9
 returns : tie.Need-returns
 returns c = let args = c .before .before .before .before .before .before .before .args in
     c .refuse-if .ensures
     ∙ ap (refuseIf 11 0) (asked-all (args .full-scale) (args .frames) (args .mask .now) (args .sums .now) (args .squares .now) _ (sym (c .before .before .before .readable .ensures) ∙ c .before .before .if1 .taken) (c .before .first-impossible .ensures))
 
--- src/lib.rt:85:1
 returns-2 : tie.Need-returns-2
 returns-2 c = let args = c .before .before .before .before .before .args in
     not-asked (args .full-scale) (args .frames) (args .mask .now) (args .sums .now) (args .squares .now) (sym (c .before .readable .ensures) ∙ c .if1 .left)

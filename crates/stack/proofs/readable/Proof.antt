@@ -1,33 +1,25 @@
-use Rattle.stack.specs.Sums.{readable}
-use borrow.Author.Tests.{lt-leb, le-leb, eq-eqb, ne-eqb}
 -- `readable` is right because its tests are the definition's, the first that fails left at once.
-use borrow.Author.Needs.{needs}
+use borrow.Author.Tests.{lt-leb, le-leb, eq-eqb, ne-eqb}
+use Rattle.stack.specs.Sums.{readable}
 use Rattle.stack.proofs.readable.Statement.{statement}
 use Rattle.stack.proofs.readable.Tie as tie
-use Rattle.stack.proofs.readable.Reads as reads
-use Rattle.stack.proofs.readable.Lts as lts
 
--- src/lib.rt:39:9
 returns : tie.Need-returns
 unfolding readable
 returns c = rw (lt-leb _ _ (c .if1 .taken))
 
--- src/lib.rt:42:9
 returns-2 : tie.Need-returns-2
 unfolding readable
 returns-2 c = rw (le-leb _ _ (c .before .if1 .left), lt-leb _ _ (c .if2 .taken))
 
--- src/lib.rt:45:9
 returns-3 : tie.Need-returns-3
 unfolding readable
 returns-3 c = rw (le-leb _ _ (c .before .before .if1 .left), le-leb _ _ (c .before .if2 .left), lt-leb _ _ (c .if3 .taken))
 
--- src/lib.rt:48:9
 returns-4 : tie.Need-returns-4
 unfolding readable
 returns-4 c = rw (le-leb _ _ (c .before .before .before .if1 .left), le-leb _ _ (c .before .before .if2 .left), le-leb _ _ (c .before .if3 .left), ne-eqb _ _ (c .if4 .taken))
 
--- src/lib.rt:35:1
 returns-5 : tie.Need-returns-5
 unfolding readable
 returns-5 c = rw (le-leb _ _ (c .before .before .before .if1 .left), le-leb _ _ (c .before .before .if2 .left), le-leb _ _ (c .before .if3 .left), eq-eqb _ _ (c .if4 .left))

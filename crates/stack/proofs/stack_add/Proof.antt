@@ -1,16 +1,12 @@
+-- `stack_add` is right because it adds only where nothing is refused, and there every sum has room.
+use mathlib.Core.Path.{_≡_, sym, _∙_}
+use native.Mathlib.Omega.{arith}
+use borrow.Author.Needs.{needs}
 use Rattle.stack.proofs.Adds.{Accepted, accepted, sum-room, square-room, refused-is, accepted-is}
 use Rattle.stack.specs.Add.{addVerdict}
 use Rattle.window.specs.declared.Verdict.the-variants as verdict
-use native.Mathlib.Omega.{arith}
-use mathlib.Core.Path.{_≡_, sym, _∙_}
--- `stack_add` is right because it adds only where nothing is refused, and there every sum has room.
-use borrow.Author.Needs.{needs}
 use Rattle.stack.proofs.stack_add.Statement.{statement}
 use Rattle.stack.proofs.stack_add.Tie as tie
-use Rattle.stack.proofs.stack_add.Reads as reads
-use Rattle.stack.proofs.stack_add.Lts as lts
-use Rattle.stack.proofs.add_seen.Reads as add-seen-reads
-use Rattle.stack.proofs.judge_frame.Reads as judge-frame-reads
 
 abbrev Begun : tie.After-enum-told → tie.Start
 Begun c = c .before .before .before .before .before .before .before .before .before
@@ -24,24 +20,19 @@ known : (c : tie.After-enum-told)
     → Accepted (Begun c .args .width) (Begun c .args .height) (Begun c .args .full-scale) (Begun c .args .frames) (Begun c .args .mask .now) (Begun c .args .frame .now) (Begun c .args .sums .now) (Begun c .args .squares .now)
 known c = accepted _ _ _ _ _ _ _ _ (clear c)
 
--- src/lib.rt:163:11
 judge-frame-requires : tie.Need-judge-frame-requires
 judge-frame-requires c κs = search needs
 
--- src/lib.rt:164:26
 enum-known-refusal : tie.Need-enum-known-refusal
 enum-known-refusal c = search needs
 
--- src/lib.rt:166:35
 enum-told : tie.Need-enum-told
 enum-told c = search needs
 
--- src/lib.rt:166:13
 add-seen-requires : tie.Need-add-seen-requires
 add-seen-requires c κs = let e = c .before .before in
     let a = known e in
-    let s = e .before .before .before .before .before in
-    (
+    let s = e .before .before .before .before .before in (
       a .framed ∙ sym (a .masked),
       a .summed ∙ sym (a .masked),
       a .square-summed ∙ sym (a .masked),
@@ -49,31 +40,24 @@ add-seen-requires c κs = let e = c .before .before in
       λ i l. square-room _ _ _ _ _ _ _ _ a i l (omega (arith, s .slice-known2 .given i)),
     )
 
--- src/lib.rt:167:27
 add-t21 : tie.Need-add-t21
 add-t21 c = omega (arith, known (c .before .before .before .before .before .before .before) .room)
 
--- src/lib.rt:148:1
 same-length : tie.Need-same-length
 same-length c = search needs
 
--- src/lib.rt:148:1
 same-length-2 : tie.Need-same-length-2
 same-length-2 c = search needs
 
--- src/lib.rt:148:1
 returns : tie.Need-returns
 returns c = refused-is _ _ _ _ _ _ _ _ _ (sym (c .before .before .before .judge-frame .ensures) ∙ c .before .refusal .given .1)
 
--- src/lib.rt:148:1
 same-length-3 : tie.Need-same-length-3
 same-length-3 c = search needs
 
--- src/lib.rt:148:1
 same-length-4 : tie.Need-same-length-4
 same-length-4 c = search needs
 
--- src/lib.rt:148:1
 returns-2 : tie.Need-returns-2
 returns-2 c = let seen = c .before .before .before .before in
     let done = accepted-is _ _ _ _ _ _ _ _ (clear (seen .before .before .before)) in

@@ -1,18 +1,12 @@
+-- `stack_variance` is right because it divides only where nothing is refused, and there both numbers have exact floats.
+use mathlib.Core.Path.{_≡_, sym, _∙_}
+use native.Mathlib.Omega.{arith}
+use borrow.Author.Needs.{needs}
 use Rattle.stack.proofs.Variances.{frames-fit, denominator-fits, refused-is, accepted-is}
 use Rattle.stack.specs.Variance.{varianceVerdict}
 use Rattle.window.specs.declared.Verdict.the-variants as verdict
-use native.Mathlib.Omega.{arith}
-use mathlib.Core.Path.{_≡_, sym, _∙_}
--- `stack_variance` is right because it divides only where nothing is refused, and there both numbers have exact floats.
-use borrow.Author.Needs.{needs}
 use Rattle.stack.proofs.stack_variance.Statement.{statement}
 use Rattle.stack.proofs.stack_variance.Tie as tie
-use Rattle.stack.proofs.stack_variance.Reads as reads
-use Rattle.stack.proofs.stack_variance.Lts as lts
-use Rattle.exact.proofs.ratio.Reads as ratio-reads
-use Rattle.stack.proofs.judge_stack.Reads as judge-stack-reads
-use Rattle.stack.proofs.spread.Reads as spread-reads
-use Rattle.window.proofs.surveyed.Reads as surveyed-reads
 
 abbrev Begun : tie.After-enum-told → tie.Start
 Begun c = c .before .before .before .before .before .before .before .before
@@ -22,45 +16,35 @@ clear : (c : tie.After-enum-told)
     ≡ verdict.Clear
 clear c = sym (c .before .before .judge-stack .ensures) ∙ c .enum-told .given .1
 
--- src/lib.rt:265:9
 surveyed-requires : tie.Need-surveyed-requires
 surveyed-requires c κs = search needs
 
--- src/lib.rt:266:9
 spread-requires : tie.Need-spread-requires
 spread-requires c κs = search needs
 
--- src/lib.rt:267:11
 judge-stack-requires : tie.Need-judge-stack-requires
 judge-stack-requires c κs = search needs
 
--- src/lib.rt:268:26
 enum-known-refusal : tie.Need-enum-known-refusal
 enum-known-refusal c = search needs
 
--- src/lib.rt:270:40
 enum-told : tie.Need-enum-told
 enum-told c = search needs
 
--- src/lib.rt:270:40
 mul-denominator : tie.Need-mul-denominator
 mul-denominator c = let s = c .before .before .before in
     omega (arith, frames-fit _ _ _ _ _ _ _ (clear c) _ _ (s .before .surveyed .ensures) (s .spread .ensures))
 
--- src/lib.rt:270:31
 mul-denominator-2 : tie.Need-mul-denominator-2
 mul-denominator-2 c = let s = c .before .before .before in
     omega (arith, denominator-fits _ _ _ _ _ _ _ (clear c) _ _ (s .before .surveyed .ensures) (s .spread .ensures))
 
--- src/lib.rt:271:55
 ratio-requires : tie.Need-ratio-requires
 ratio-requires c κs = search needs
 
--- src/lib.rt:253:1
 returns : tie.Need-returns
 returns c = refused-is _ _ _ _ _ _ _ _ (sym (c .before .before .before .judge-stack .ensures) ∙ c .before .refusal .given .1)
 
--- src/lib.rt:253:1
 returns-2 : tie.Need-returns-2
 returns-2 c = let s = c .before .before .before .before in
     accepted-is _ _ _ _ _ _ _ (clear (c .before)) _ _ (s .before .surveyed .ensures) (s .spread .ensures) _ (c .ratio .ensures)

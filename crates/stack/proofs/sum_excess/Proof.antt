@@ -1,18 +1,14 @@
+-- `sum_excess` is right because each turn adds one site's k × q − s², of the sums as they are seen there.
+use Prim.Native.Nat.{ℕ, _*_, _-_, _≤_}
+use mathlib.Core.Path.{_≡_, ap, _∙_}
+use native.Mathlib.Omega.{arith}
+use lib.ListN.{length}
+use borrow.Author.Needs.{needs}
 use Rattle.stack.proofs.Turns.{spread-none, spread-more}
 use Rattle.stack.specs.Sums.{spread}
 use Rattle.window.specs.View.{seen}
-use lib.ListN.{length}
-use native.Mathlib.Omega.{arith}
-use mathlib.Core.Path.{_≡_, ap, _∙_}
-use Prim.Native.Nat.{ℕ, _+_, _*_, _-_, _≤_}
--- `sum_excess` is right because each turn adds one site's k × q − s², of the sums as they are seen there.
-use borrow.Author.Needs.{needs}
 use Rattle.stack.proofs.sum_excess.Statement.{statement}
 use Rattle.stack.proofs.sum_excess.Tie as tie
-use Rattle.stack.proofs.sum_excess.Reads as reads
-use Rattle.stack.proofs.sum_excess.Lts as lts
-use Rattle.stack.proofs.excess.Reads as excess-reads
-use Rattle.stack.proofs.sum_at.Reads as sum-at-reads
 
 abbrev Inv-loop : tie.InvT-loop
 Inv-loop frames mask sums squares total₀ i₀ i-end total i = (i ≤ length mask) × (total ≤ i * (100 * 4294967295)) × (total ≡ spread i frames (seen mask sums) (seen mask squares))
@@ -20,69 +16,53 @@ Inv-loop frames mask sums squares total₀ i₀ i-end total i = (i ≤ length ma
 abbrev μ-loop : tie.MeasureT-loop
 μ-loop frames mask sums squares total₀ i₀ i-end total i = length mask - i
 
--- src/lib.rt:200:5
 loop-holds : tie.Need-loop-holds Inv-loop μ-loop
 loop-holds c = (omega arith, omega arith, spread-none _ _ _)
 
--- src/lib.rt:201:40
 shared-slice-read-sum-at : tie.Need-shared-slice-read-sum-at Inv-loop μ-loop
 shared-slice-read-sum-at c = omega arith
 
--- src/lib.rt:201:49
 mul-sum-at : tie.Need-mul-sum-at Inv-loop μ-loop
 mul-sum-at c = omega arith
 
--- src/lib.rt:201:49
 shared-slice-read-sum-at-2 : tie.Need-shared-slice-read-sum-at-2 Inv-loop μ-loop
 shared-slice-read-sum-at-2 c = omega arith
 
--- src/lib.rt:201:33
 sum-at-requires : tie.Need-sum-at-requires Inv-loop μ-loop
 sum-at-requires c κs = search needs
 
--- src/lib.rt:201:66
 shared-slice-read-sum-at-3 : tie.Need-shared-slice-read-sum-at-3 Inv-loop μ-loop
 shared-slice-read-sum-at-3 c = omega arith
 
--- src/lib.rt:201:75
 mul-sum-at-2 : tie.Need-mul-sum-at-2 Inv-loop μ-loop
 mul-sum-at-2 c = omega arith
 
--- src/lib.rt:201:75
 shared-slice-read-sum-at-4 : tie.Need-shared-slice-read-sum-at-4 Inv-loop μ-loop
 shared-slice-read-sum-at-4 c = omega arith
 
--- src/lib.rt:201:59
 sum-at-requires-2 : tie.Need-sum-at-requires-2 Inv-loop μ-loop
 sum-at-requires-2 c κs = search needs
 
--- src/lib.rt:201:18
 excess-requires : tie.Need-excess-requires Inv-loop μ-loop
 excess-requires c κs = omega arith
 
--- src/lib.rt:201:9
 add-total : tie.Need-add-total Inv-loop μ-loop
 add-total c = omega arith
 
--- src/lib.rt:200:9
 add-i : tie.Need-add-i Inv-loop μ-loop
 add-i c = omega arith
 
--- src/lib.rt:200:5
 loop-less : tie.Need-loop-less Inv-loop μ-loop
 loop-less c = omega arith
 
--- src/lib.rt:200:5
 loop-again : tie.Need-loop-again Inv-loop μ-loop
 loop-again c = let l = c .before .before .before .before .before .before .before .before in
-    let args = l .before .before .before .before .args in
-    (
+    let args = l .before .before .before .before .args in (
       omega arith,
       omega arith,
       spread-more (args .frames) (args .mask .now) (args .sums .now) (args .squares .now) (l .loop .i) _ _ _ _ (l .loop .inv .2) (c .excess .ensures .0) (c .before .before .before .before .sum-at .ensures) (c .before .sum-at2 .ensures),
     )
 
--- src/lib.rt:195:1
 returns : tie.Need-returns Inv-loop μ-loop
 returns c = let args = c .before .before .before .before .before .args in
     let e : c .before .loop .i ≡ length (args .mask .now) = omega arith in

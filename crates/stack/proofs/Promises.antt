@@ -1,0 +1,218 @@
+-- What is promised of `stack_add` and `stack_variance`, for any sides, full scale, frame count and buffers, and of runs of frames.
+use Prim.Native.Nat.{ℕ, _*_, _^_, _≤_, _<_}
+use mathlib.Core.Bool.{true, false}
+use mathlib.Core.List.{List, [], _∷_}
+use mathlib.Core.Path.{_≡_, refl, sym, ap, _∙_}
+use native.Mathlib.Nat.{mul-pos}
+use native.Mathlib.Omega.{arith}
+use lib.Dec.{leb}
+use lib.Ieee.{binary64, ofBits}
+use lib.ListN.{length, getD, replicate, length-replicate}
+use borrow.Author.Tests.{lt-leb}
+use Rattle.laws.specs.Sum.{sumTo}
+use Rattle.laws.proofs.Tables.{getD-tabulate}
+use Rattle.exact.specs.Quotient.{floatZero}
+use Rattle.exact.proofs.Quotients.{quotient-zero}
+use Rattle.window.specs.Shape.{badScale, sitesOf}
+use Rattle.window.specs.View.{surveyed, seen, one}
+use Rattle.window.specs.Verdict.{_⨟_, refuseIf, ifClear}
+use Rattle.window.specs.Judge.{shapeOf, otherThan, codesOf}
+use Rattle.window.specs.declared.Verdict.{Verdict}
+use Rattle.window.specs.declared.Verdict.the-variants as verdict
+use Rattle.window.proofs.Sides.{scale, sites-few}
+use Rattle.window.proofs.Verdicts.{Tabled, Refuses, refuses, then-same, then-end, unless}
+use Rattle.window.proofs.Views.{Agree, same-view, seen-is, seen-in, seen-out}
+use Rattle.window.proofs.Chains.{shape-clear}
+use Rattle.stack.specs.Sums.{impossibleIn, squared, added, spread}
+use Rattle.stack.specs.Add.{addVerdict, addAnswer, addPaper, addSums, addSquares}
+use Rattle.stack.specs.Variance.{badCount, tooFew, varianceVerdict, varianceAnswer, variancePaper}
+use Rattle.stack.specs.Run.{Stack, run, runVerdict, overFrames}
+use Rattle.stack.specs.declared.Added.{Added}
+use Rattle.stack.specs.declared.Variance.{Variance}
+use Rattle.stack.specs.declared.Variance.the-variants.{Figures}
+use Rattle.stack.proofs.Sites.{all-possible}
+use Rattle.stack.proofs.Turns.{added-same, added-keeps}
+use Rattle.stack.proofs.Adds as adds
+use Rattle.stack.proofs.Variances as variances
+use Rattle.stack.proofs.Runs.{over-ext, Reordered, as-many, InRange, AllInRange, range-order, range-repeated, sumAt, squareAt, sum-out, square-out, run-is, Legal, run-clear, taken, run-spread, variance-clear, equal-spread, same-stack}
+
+-- ---- adding a frame
+module _ (w h full k : ℕ) (mask frame sums squares : List ℕ) where
+  -- only: no second answer and no second final buffer meets the promise
+  pub add-only : (a b : Added) (s t q r : List ℕ)
+      → (a ≡ addAnswer w h full k mask frame sums squares) × (s ≡ addSums w h full k mask frame sums squares) × (q ≡ addSquares w h full k mask frame sums squares)
+      → (b ≡ addAnswer w h full k mask frame sums squares) × (t ≡ addSums w h full k mask frame sums squares) × (r ≡ addSquares w h full k mask frame sums squares)
+      → (a ≡ b) × (s ≡ t) × (q ≡ r)
+  add-only a b s t q r x y = (x .0 ∙ sym (y .0), x .1 ∙ sym (y .1), x .2 ∙ sym (y .2))
+
+  -- given: 1 to 12 exactly as document 01 tables them, in that order (`Adds.tests` has the table)
+  pub add-given : Tabled (addVerdict w h full k mask frame sums squares) (adds.tests w h full k mask frame sums squares)
+  add-given = adds.table w h full k mask frame sums squares
+
+  -- refused: where the number is not 0 the count is 0 and both buffers are as they were, and where it is 0 so is the place
+  pub add-refused : Refuses (addPaper w h full k mask frame sums squares .number) (addPaper w h full k mask frame sums squares .place)
+      ((addPaper w h full k mask frame sums squares .count ≡ 0) × (addSums w h full k mask frame sums squares ≡ sums) × (addSquares w h full k mask frame sums squares ≡ squares))
+  unfolding addPaper addSums addSquares
+  add-refused = refuses (addVerdict w h full k mask frame sums squares) add-given refl (λ r e. rw e (refl, refl, refl))
+
+  -- other sites' sums stay, whatever is answered
+  pub add-keeps : (i : ℕ) → (getD mask i 0 ≡ 0 → ⊥)
+      → (getD (addSums w h full k mask frame sums squares) i 0 ≡ getD sums i 0) × (getD (addSquares w h full k mask frame sums squares) i 0 ≡ getD squares i 0)
+  unfolding addSums addSquares
+  add-keeps i out = by (addVerdict w h full k mask frame sums squares)
+    where
+      none : seen mask frame i ≡ 0
+      none = seen-is mask frame i ∙ seen-out (getD mask i 0) (getD frame i 0) out
+
+      by : (v : Verdict) → (getD (ifClear v (added (seen mask frame) sums) sums) i 0 ≡ getD sums i 0) × (getD (ifClear v (added (squared (seen mask frame)) squares) squares) i 0 ≡ getD squares i 0)
+      by verdict.Clear = (added-keeps (seen mask frame) sums i none, added-keeps (squared (seen mask frame)) squares i (rw none))
+      by (verdict.Refused r) = (refl, refl)
+
+  -- blind: what a frame or the sums hold at unsurveyed sites changes neither the answer nor what is written at surveyed ones
+  module _ (frame′ sums′ squares′ : List ℕ) (f : Agree mask frame frame′) (s : Agree mask sums sums′) (q : Agree mask squares squares′) where
+    same-verdict : addVerdict w h full k mask frame sums squares ≡ addVerdict w h full k mask frame′ sums′ squares′
+    unfolding addVerdict
+    same-verdict = rw (f .long, s .long, q .long, same-view f, same-view s, same-view q)
+
+    pub add-blind : addAnswer w h full k mask frame sums squares ≡ addAnswer w h full k mask frame′ sums′ squares′
+    unfolding addAnswer
+    add-blind = rw same-verdict
+
+    pub add-blind-sums : (i : ℕ) → surveyed (getD mask i 0) ≡ true
+        → (getD (addSums w h full k mask frame sums squares) i 0 ≡ getD (addSums w h full k mask frame′ sums′ squares′) i 0)
+        × (getD (addSquares w h full k mask frame sums squares) i 0 ≡ getD (addSquares w h full k mask frame′ sums′ squares′) i 0)
+    unfolding addSums addSquares
+    add-blind-sums i inside = rw (same-verdict, same-view f) (by (addVerdict w h full k mask frame′ sums′ squares′))
+      where
+        by : (v : Verdict)
+            → (getD (ifClear v (added (seen mask frame′) sums) sums) i 0 ≡ getD (ifClear v (added (seen mask frame′) sums′) sums′) i 0)
+            × (getD (ifClear v (added (squared (seen mask frame′)) squares) squares) i 0 ≡ getD (ifClear v (added (squared (seen mask frame′)) squares′) squares′) i 0)
+        by verdict.Clear =
+            (added-same (seen mask frame′) sums sums′ i (s .long) (s .same i inside), added-same (squared (seen mask frame′)) squares squares′ i (q .long) (q .same i inside))
+        by (verdict.Refused r) = (s .same i inside, q .same i inside)
+
+-- ---- the variance
+module _ (w h full k : ℕ) (mask sums squares : List ℕ) where
+  -- only
+  pub variance-only : (a b : Variance) → a ≡ varianceAnswer w h full k mask sums squares → b ≡ varianceAnswer w h full k mask sums squares → a ≡ b
+  variance-only a b p q = p ∙ sym q
+
+  -- given: 1 to 14 exactly as document 01 tables them, in that order (`Variances.tests` has the table)
+  pub variance-given : Tabled (varianceVerdict w h full k mask sums squares) (variances.tests w h full k mask sums squares)
+  variance-given = variances.table w h full k mask sums squares
+
+  -- refused
+  pub variance-refused : Refuses (variancePaper w h full k mask sums squares .number) (variancePaper w h full k mask sums squares .place)
+      ((variancePaper w h full k mask sums squares .numerator ≡ 0)
+      × (variancePaper w h full k mask sums squares .denominator ≡ 0)
+      × (variancePaper w h full k mask sums squares .variance ≡ ofBits binary64 0))
+  unfolding variancePaper
+  variance-refused = refuses (varianceVerdict w h full k mask sums squares) variance-given refl (λ r e. rw e (refl, refl, refl))
+
+  -- blind: what the sums hold at unsurveyed sites changes nothing
+  pub variance-blind : (sums′ squares′ : List ℕ) → Agree mask sums sums′ → Agree mask squares squares′
+      → varianceAnswer w h full k mask sums squares ≡ varianceAnswer w h full k mask sums′ squares′
+  unfolding varianceAnswer varianceVerdict
+  variance-blind sums′ squares′ s q = rw (s .long, q .long, same-view s, same-view q)
+
+  -- within the limits, sums that 11 does not refuse have no s² above its k × q, and a numerator below 2 ^ 53
+  pub numerator-exact : badScale full ≡ false → k ≤ 100 → impossibleIn (sitesOf w h) full k (seen mask sums) (seen mask squares) ≡ false
+      → ((i : ℕ) → i < sitesOf w h → seen mask sums i * seen mask sums i ≤ k * seen mask squares i)
+      × (spread (sitesOf w h) k (seen mask sums) (seen mask squares) < 2 ^ 53)
+  numerator-exact legal most e =
+      let possible = all-possible (sitesOf w h) full k (seen mask sums) (seen mask squares) e in (
+        (λ i l. possible i l .spread),
+        variances.spread-exact (sitesOf w h) full k (seen mask sums) (seen mask squares) (sites-few w h) (scale full legal .high) most possible,
+      )
+
+  unmet : full ≤ 4095 → k ≤ 100 → impossibleIn (sitesOf w h) full k (seen mask sums) (seen mask squares) ≡ false
+      → refuseIf 14 0 (leb (2 ^ 53) (spread (sitesOf w h) k (seen mask sums) (seen mask squares))) ≡ verdict.Clear
+  unfolding refuseIf
+  unmet bright most e =
+      let possible = all-possible (sitesOf w h) full k (seen mask sums) (seen mask squares) e in
+      rw (lt-leb (2 ^ 53) (spread (sitesOf w h) k (seen mask sums) (seen mask squares))
+      (variances.spread-exact (sitesOf w h) full k (seen mask sums) (seen mask squares) (sites-few w h) bright most possible))
+
+  -- so 14 is never given: without its test the verdict is the same
+  pub never-inexact : varianceVerdict w h full k mask sums squares
+      ≡ shapeOf w h full
+      ⨟ refuseIf 3 0 (badCount k)
+      ⨟ refuseIf 4 0 (otherThan (sitesOf w h) (length mask))
+      ⨟ refuseIf 4 0 (otherThan (sitesOf w h) (length sums))
+      ⨟ refuseIf 4 0 (otherThan (sitesOf w h) (length squares))
+      ⨟ codesOf (sitesOf w h) mask
+      ⨟ refuseIf 7 0 (tooFew (sumTo (sitesOf w h) (one mask)) k)
+      ⨟ refuseIf 11 0 (impossibleIn (sitesOf w h) full k (seen mask sums) (seen mask squares))
+  unfolding varianceVerdict
+  never-inexact =
+      then-same (shapeOf w h full) (λ legal. then-same (refuseIf 3 0 (badCount k)) (λ good.
+      then-same (refuseIf 4 0 (otherThan (sitesOf w h) (length mask))) (λ _.
+      then-same (refuseIf 4 0 (otherThan (sitesOf w h) (length sums))) (λ _.
+      then-same (refuseIf 4 0 (otherThan (sitesOf w h) (length squares))) (λ _.
+      then-same (codesOf (sitesOf w h) mask) (λ _.
+      then-same (refuseIf 7 0 (tooFew (sumTo (sitesOf w h) (one mask)) k)) (λ _.
+      then-same (refuseIf 11 0 (impossibleIn (sitesOf w h) full k (seen mask sums) (seen mask squares))) (λ odd.
+      unmet (shape-clear w h full legal .1 .high) (variances.good-count k (unless 3 0 (badCount k) good)) (unless 11 0 (impossibleIn (sitesOf w h) full k (seen mask sums) (seen mask squares)) odd))
+      ∙ then-end (refuseIf 11 0 (impossibleIn (sitesOf w h) full k (seen mask sums) (seen mask squares))))))))))
+
+-- ---- runs of frames, from zero sums, with one window, full scale and mask
+module _ (w h full : ℕ) (mask : List ℕ) where
+  -- accepted frames are counted
+  pub run-counts : (fs : List (List ℕ)) → runVerdict w h full mask fs ≡ verdict.Clear → run w h full mask fs .frames ≡ length fs
+  run-counts fs clear = ap (λ (s : Stack). s .frames) (run-is w h full mask fs clear)
+
+  -- the sums are each surveyed site's sum, and sum of squares, of the frames' samples
+  pub run-sums : (fs : List (List ℕ)) → runVerdict w h full mask fs ≡ verdict.Clear → (i : ℕ) → i < sitesOf w h → getD mask i 0 ≡ 0
+      → (getD (run w h full mask fs .sums) i 0 ≡ overFrames fs (λ (f : List ℕ). getD f i 0))
+      × (getD (run w h full mask fs .squares) i 0 ≡ overFrames fs (λ (f : List ℕ). getD f i 0 * getD f i 0))
+  run-sums fs clear i l e =
+      rw (run-is w h full mask fs clear, getD-tabulate (sitesOf w h) (sumAt mask fs) i l, getD-tabulate (sitesOf w h) (squareAt mask fs) i l)
+      (over-ext fs sample, over-ext fs (λ f. ap (λ (p : ℕ). p * p) (sample f)))
+    where
+      sample : (f : List ℕ) → seen mask f i ≡ getD f i 0
+      sample f = seen-is mask f i ∙ seen-in (getD mask i 0) (getD f i 0) e
+
+  -- and 0 at all other sites
+  pub run-others : (fs : List (List ℕ)) → runVerdict w h full mask fs ≡ verdict.Clear → (i : ℕ) → i < sitesOf w h → (getD mask i 0 ≡ 0 → ⊥)
+      → (getD (run w h full mask fs .sums) i 0 ≡ 0) × (getD (run w h full mask fs .squares) i 0 ≡ 0)
+  run-others fs clear i l out =
+      rw (run-is w h full mask fs clear, getD-tabulate (sitesOf w h) (sumAt mask fs) i l, getD-tabulate (sitesOf w h) (squareAt mask fs) i l)
+      (sum-out mask fs i out, square-out mask fs i out)
+
+  -- a run of at most 100 frames in range is accepted: it never meets 11
+  pub run-accepted : Legal w h full mask → (fs : List (List ℕ)) → AllInRange (sitesOf w h) full mask fs → length fs ≤ 100
+      → runVerdict w h full mask fs ≡ verdict.Clear
+  run-accepted legal fs ranged few = run-clear w h full mask legal fs ranged few
+
+  -- accepted frames are accepted in any order, and give the same sums
+  pub run-order : (fs gs : List (List ℕ)) → Reordered fs gs → runVerdict w h full mask fs ≡ verdict.Clear
+      → (runVerdict w h full mask gs ≡ verdict.Clear) × (run w h full mask fs ≡ run w h full mask gs)
+  run-order [] [] order clear = (clear, refl)
+  run-order [] (g ∷ gs) order clear = absurd (omega (arith, as-many order))
+  run-order (f ∷ fs) gs order clear =
+      let t = taken w h full mask f fs clear in
+      let other = run-clear w h full mask (t .legal) gs (range-order order (t .ranged)) (omega (arith, as-many order, t .few)) in
+      (other, run-is w h full mask (f ∷ fs) clear ∙ same-stack w h full mask order ∙ sym (run-is w h full mask gs other))
+
+  -- two or more frames in range, with a surveyed site, have a variance
+  pub run-variance : Legal w h full mask → (fs : List (List ℕ)) → AllInRange (sitesOf w h) full mask fs → 2 ≤ length fs → length fs ≤ 100
+      → 0 < sumTo (sitesOf w h) (one mask)
+      → varianceVerdict w h full (run w h full mask fs .frames) mask (run w h full mask fs .sums) (run w h full mask fs .squares) ≡ verdict.Clear
+  run-variance legal fs ranged least most some =
+      rw (run-is w h full mask fs (run-clear w h full mask legal fs ranged most)) (variance-clear w h full mask legal fs ranged least most some)
+
+  -- and equal frames have the variance 0
+  pub run-equal : Legal w h full mask → (k : ℕ) (frame : List ℕ) → InRange (sitesOf w h) full mask frame → 2 ≤ k → k ≤ 100
+      → 0 < sumTo (sitesOf w h) (one mask)
+      → varianceAnswer w h full (run w h full mask (replicate k frame) .frames) mask (run w h full mask (replicate k frame) .sums) (run w h full mask (replicate k frame) .squares)
+      ≡ Figures 0 (sumTo (sitesOf w h) (one mask) * (k * k)) floatZero
+  unfolding varianceAnswer
+  run-equal legal k frame ranged least most some =
+      let fs = replicate k frame in
+      let many = length-replicate k frame in
+      let all = range-repeated k ranged in
+      let clear = run-clear w h full mask legal fs all (omega (arith, many)) in
+      let accepted = variance-clear w h full mask legal fs all (omega (arith, many)) (omega (arith, many)) some in
+      let frames : 0 < k = omega arith in
+      rw (run-is w h full mask fs clear, accepted, run-spread w h full mask fs, many, equal-spread (sitesOf w h) k mask frame)
+      (ap (Figures 0 (sumTo (sitesOf w h) (one mask) * (k * k))) (quotient-zero (sumTo (sitesOf w h) (one mask) * (k * k)) (mul-pos some (mul-pos frames frames))))
