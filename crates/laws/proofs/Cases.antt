@@ -29,6 +29,13 @@ pub neither : (a b : Bool) → (a || b) ≡ false → (a ≡ false) × (b ≡ fa
 neither true b e = absurd (not-both refl e)
 neither false b e = (refl, e)
 
+-- two tests are one where neither fails alone
+pub both-ways : (a b : Bool) → (a ≡ false → b ≡ false) → (b ≡ false → a ≡ false) → a ≡ b
+both-ways true true f g = refl
+both-ways true false f g = g refl
+both-ways false true f g = sym (f refl)
+both-ways false false f g = refl
+
 -- where both do
 pub and-true : (a b : Bool) → (a && b) ≡ true → (a ≡ true) × (b ≡ true)
 and-true true b e = (refl, e)

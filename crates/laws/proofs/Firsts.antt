@@ -1,14 +1,14 @@
 -- The laws of `firstTo`.
 use Prim.Native.Nat.{ℕ, zero, suc, _+_, _≤_, _<_}
-use mathlib.Core.Bool.{Bool, true, false, cond}
+use mathlib.Core.Bool.{Bool, true, false, cond, _||_}
 use mathlib.Core.Logic.{⊎-elim}
-use mathlib.Core.Path.{_≡_, refl}
-use native.Mathlib.Nat.{le-of-suc-le-suc, eq-or-lt-of-le}
+use mathlib.Core.Path.{_≡_, refl, sym, _∙_}
+use native.Mathlib.Nat.{le-refl, le-of-suc-le-suc, eq-or-lt-of-le}
 use native.Mathlib.Numerals.{add-one}
 use native.Mathlib.Omega.{arith}
 use lib.Dec.{ltb}
 use borrow.Author.Tests.{lt-ltb, le-ltb, ltb-false}
-use Rattle.laws.specs.First.{firstTo}
+use Rattle.laws.specs.First.{firstTo, someTo}
 use Rattle.laws.proofs.Cases.{lt-or-ge, true-or-false, not-both}
 
 module _ (test : ℕ → Bool) where
@@ -80,3 +80,37 @@ module _ (test : ℕ → Bool) where
       (λ l. absurd (not-both (first-holds n l) (none (firstTo n test) l)))
       (λ g. le-ltb (firstTo n test) n g)
       (lt-or-ge (firstTo n test) n)
+
+  -- a walk past every index, that is not left at the first hit: where it begins
+  pub some-none : someTo 0 test ≡ false
+  unfolding firstTo
+  some-none = refl
+
+  -- and a turn of it
+  pub some-more : (n : ℕ) → (someTo n test || test n) ≡ someTo (n + 1) test
+  unfolding firstTo
+  some-more n =
+      ⊎-elim
+      (λ l. rw (add-one n, lt-ltb (firstTo n test) n l) (sym (lt-ltb (firstTo n test) (suc n) (omega arith))))
+      (λ g. rw (add-one n, le-ltb (firstTo n test) n g) (by (test n)))
+      (lt-or-ge (firstTo n test) n)
+    where
+      by : (b : Bool) → b ≡ ltb (cond b n (suc n)) (suc n)
+      by true = sym (lt-ltb n (suc n) (omega arith))
+      by false = sym (le-ltb (suc n) (suc n) (omega arith))
+
+-- two tests that agree below n find the same
+pub first-ext : (n : ℕ) (f g : ℕ → Bool) → ((k : ℕ) → k < n → f k ≡ g k) → firstTo n f ≡ firstTo n g
+unfolding firstTo
+first-ext zero f g h = refl
+first-ext (suc n) f g h = rw (first-ext n f g (λ k l. h k (omega arith)), h n (le-refl (suc n)))
+
+-- where a test holds nowhere below m, one that each index carries to it holds nowhere below n
+pub nowhere-from : (n m : ℕ) (f g : ℕ → Bool) (to : ℕ → ℕ) → ((i : ℕ) → i < n → (to i < m) × (f i ≡ g (to i)))
+    → someTo m g ≡ false → someTo n f ≡ false
+nowhere-from n m f g to carried e =
+    ⊎-elim
+    (λ l. absurd (not-both (first-holds f n l)
+    (carried (firstTo n f) l .1 ∙ first-nowhere g m e (to (firstTo n f)) (carried (firstTo n f) l .0))))
+    (λ h. le-ltb (firstTo n f) n h)
+    (lt-or-ge (firstTo n f) n)

@@ -1,7 +1,7 @@
 -- A signed local of the code is its bits: what they stand for is `toZ`, and what an operation writes is `ofZ`.
 use Prim.Native.Nat.{ℕ, _+_, _*_, _^_, _<_}
 use mathlib.Core.Logic.{⊎-elim}
-use mathlib.Core.Path.{_≡_, sym, _∙_}
+use mathlib.Core.Path.{_≡_, sym, ap₂, _∙_}
 use native.Mathlib.Omega.{arith}
 use lib.Dec.{ltb}
 use lib.IntN.{ℤ, pos, _+ℤ_, _-ℤ_, _*ℤ_}
@@ -11,7 +11,7 @@ use mir.Val.{SFits, toZ, ofZ}
 use mir.Facts.{toZ-ofZ}
 use Rattle.laws.specs.Signed.{_⊖_, apart}
 use Rattle.laws.proofs.Cases.{lt-or-ge}
-use Rattle.laws.proofs.Signeds.{⊖-add, ⊖-sub, ⊖-zero, ⊖-eq, ⊖-ge, ⊖-less, ⊖-ltZ, ⊖-square}
+use Rattle.laws.proofs.Signeds.{⊖-add, ⊖-sub, ⊖-zero, ⊖-eq, ⊖-ge, ⊖-less, ⊖-ltZ, ⊖-square, ⊖-scale}
 
 -- a difference of two numbers below 2 ^ 63 fits an i64
 pub ⊖-fits : (a b : ℕ) → a < 2 ^ 63 → b < 2 ^ 63 → SFits w64 (a ⊖ b)
@@ -63,6 +63,17 @@ module _ {x a b : ℕ} (i : Is x a b) (h : apart a b * apart a b < 2 ^ 63) where
 
   pub square-is : toZ w64 (ofZ w64 (toZ w64 x *ℤ toZ w64 x)) ≡ pos (apart a b * apart a b)
   square-is = toZ-ofZ square-fits ∙ rw (i .val) (⊖-square a b)
+
+-- a difference times a number that was cast
+module _ {x a b : ℕ} (n : ℕ) (i : Is x a b) (small : n < 2 ^ 63) (p : a * n < 2 ^ 63) (q : b * n < 2 ^ 63) where
+  product : toZ w64 x *ℤ toZ w64 n ≡ (a ⊖ b) *ℤ pos n
+  product = ap₂ (λ (y z : ℤ). y *ℤ z) (i .val) (nat-is n small .val ∙ ⊖-zero n)
+
+  pub scale-fits : SFits w64 (toZ w64 x *ℤ toZ w64 n)
+  scale-fits = rw (product, ⊖-scale a b n) (⊖-fits (a * n) (b * n) p q)
+
+  pub scale-is : toZ w64 (ofZ w64 (toZ w64 x *ℤ toZ w64 n)) ≡ (a ⊖ b) *ℤ pos n
+  scale-is = toZ-ofZ scale-fits ∙ product
 
 -- a difference of two numbers that were cast
 module _ (x y : ℕ) (p : x < 2 ^ 63) (q : y < 2 ^ 63) where

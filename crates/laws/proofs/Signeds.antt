@@ -5,7 +5,7 @@ use mathlib.Core.Path.{_≡_, refl, sym, ap, ap₂, _∙_}
 use native.Mathlib.Nat.{add-zero, add-comm, add-mul}
 use native.Mathlib.Omega.{arith}
 use lib.Dec.{ltb}
-use lib.IntN.{ℤ, pos, negsuc, negℤ, _+ℤ_, _-ℤ_, _*ℤ_, +ℤ-assoc, +ℤ-comm, +ℤ-idl, +ℤ-idr, +ℤ-invr, negℤ-+ℤ, negℤ-negℤ}
+use lib.IntN.{ℤ, pos, negsuc, natAbs, negℤ, _+ℤ_, _-ℤ_, _*ℤ_, +ℤ-assoc, +ℤ-comm, +ℤ-idl, +ℤ-idr, +ℤ-invr, negℤ-+ℤ, negℤ-negℤ}
 use lib.Signed.{ltZ}
 use borrow.Author.Tests.{lt-ltb, le-ltb, ltb-false}
 use Rattle.laws.specs.Sum.{sumTo}
@@ -108,6 +108,14 @@ pub ⊖-square : (a b : ℕ) → (a ⊖ b) *ℤ (a ⊖ b) ≡ pos (apart a b * a
     (λ g. let e : a - b ≡ apart a b = omega arith in rw (⊖-ge a b g) (ap (λ (k : ℕ). pos (k * k)) e))
     (lt-or-ge a b)
 
+-- and its size
+pub ⊖-size : (a b : ℕ) → natAbs (a ⊖ b) ≡ apart a b
+⊖-size a b =
+    ⊎-elim
+    (λ l. let e : suc (b - suc a) ≡ apart a b = omega arith in rw (⊖-less a b l) e)
+    (λ g. let e : a - b ≡ apart a b = omega arith in rw (⊖-ge a b g) e)
+    (lt-or-ge a b)
+
 split : (a b n : ℕ) → b ≤ a → a * n ≡ (a - b) * n + b * n
 split a b n h = let e : a ≡ a - b + b = omega arith in ap (λ (k : ℕ). k * n) e ∙ add-mul (a - b) b n
 
@@ -139,3 +147,7 @@ pub ⊖-squares : (n : ℕ) (a b : ℕ → ℕ)
 unfolding sumToℤ sumTo
 ⊖-squares zero a b = refl
 ⊖-squares (suc n) a b = ap₂ (λ (x y : ℤ). x +ℤ y) (⊖-squares n a b) (⊖-square (a n) (b n))
+
+-- the size of a difference of two numbers that are at most m
+pub ⊖-within : (a b m : ℕ) → a ≤ m → b ≤ m → natAbs (a ⊖ b) ≤ m
+⊖-within a b m p q = rw (⊖-size a b) (omega arith)

@@ -1,10 +1,13 @@
 -- The laws of sums.
 use Prim.Native.Nat.{ℕ, zero, suc, _+_, _-_, _*_, _<_, _≤_, zero-le, min}
+use mathlib.Core.Bool.{cond}
 use mathlib.Core.Logic.{⊎-elim}
 use mathlib.Core.Path.{_≡_, refl, sym, ap, ap₂, _∙_}
-use native.Mathlib.Nat.{le-refl, le-trans, le-of-eq, sub-self, add-zero, add-suc, suc-mul, add-le-add, mul-add, mul-zero, le-of-suc-le-suc, eq-or-lt-of-le}
+use native.Mathlib.Nat.{le-refl, le-trans, le-of-eq, sub-self, add-zero, zero-add, add-suc, suc-mul, add-le-add, mul-add, mul-zero, zero-mul, le-of-suc-le-suc, eq-or-lt-of-le, add-comm}
 use native.Mathlib.Numerals.{add-one}
 use native.Mathlib.Omega.{arith}
+use lib.Dec.{eqb}
+use borrow.Author.Tests.{eq-eqb, ne-eqb}
 use Rattle.laws.specs.Sum.{sumTo, sumIn, sumBox}
 use Rattle.laws.proofs.Cases.{lt-or-ge}
 
@@ -39,11 +42,37 @@ sum-scaled (suc n) B f g h =
     (add-le-add (sum-scaled n B f g (λ k l. h k (omega arith))) (h n (le-refl (suc n))))
     (le-of-eq (sym (mul-add B (sumTo n f) (f n))))
 
+-- and one that is at least B times another
+pub sum-above : (n B : ℕ) (f g : ℕ → ℕ) → ((k : ℕ) → k < n → B * f k ≤ g k) → B * sumTo n f ≤ sumTo n g
+unfolding sumTo
+sum-above zero B f g h = le-of-eq (mul-zero B)
+sum-above (suc n) B f g h =
+    le-trans
+    (le-of-eq (mul-add B (sumTo n f) (f n)))
+    (add-le-add (sum-above n B f g (λ k l. h k (omega arith))) (h n (le-refl (suc n))))
+
 -- a sum of nothing but 0
 pub sum-zero : (n : ℕ) (f : ℕ → ℕ) → ((k : ℕ) → k < n → f k ≡ 0) → sumTo n f ≡ 0
 unfolding sumTo
 sum-zero zero f h = refl
 sum-zero (suc n) f h = omega (arith, sum-zero n f (λ k l. h k (omega arith)), h n (le-refl (suc n)))
+
+-- n times the same
+pub sum-same : (n c : ℕ) (f : ℕ → ℕ) → ((k : ℕ) → k < n → f k ≡ c) → sumTo n f ≡ n * c
+unfolding sumTo
+sum-same zero c f h = sym (zero-mul c)
+sum-same (suc n) c f h = omega (arith, sum-same n c f (λ k l. h k (omega arith)), h n (le-refl (suc n)), suc-mul n c)
+
+-- a sum of which only the term at k counts
+pub sum-only : (n k : ℕ) (f : ℕ → ℕ) → k < n → sumTo n (λ (j : ℕ). cond (eqb j k) (f j) 0) ≡ f k
+unfolding sumTo
+sum-only zero k f l = absurd (omega arith)
+sum-only (suc n) k f l =
+    ⊎-elim
+    (λ e. let before = sum-zero n (λ (j : ℕ). cond (eqb j k) (f j) 0) (λ j m. rw (ne-eqb j k (λ p. omega arith))) in
+    rw (before, eq-eqb n k (sym e)) (zero-add (f n) ∙ ap f (sym e)))
+    (λ m. rw (sum-only n k f m, ne-eqb n k (λ p. omega arith)) (add-zero (f k)))
+    (eq-or-lt-of-le (le-of-suc-le-suc l))
 
 -- a sum that is 0 adds nothing else
 pub zero-terms : (n : ℕ) (f : ℕ → ℕ) → sumTo n f ≡ 0 → (k : ℕ) → k < n → f k ≡ 0
@@ -67,11 +96,59 @@ unfolding sumTo
 sum-times zero c f = sym (mul-zero c)
 sum-times (suc n) c f = omega (arith, sum-times n c f, mul-add c (sumTo n f) (f n))
 
+-- two sums whose terms differ by multiples of a third's do so too
+pub sum-shift : (n up down : ℕ) (c f g : ℕ → ℕ) → ((k : ℕ) → k < n → g k + down * c k ≡ f k + up * c k)
+    → sumTo n g + down * sumTo n c ≡ sumTo n f + up * sumTo n c
+unfolding sumTo
+sum-shift zero up down c f g h = omega (arith, mul-zero up, mul-zero down)
+sum-shift (suc n) up down c f g h =
+    omega (
+      arith,
+      sum-shift n up down c f g (λ k l. h k (omega arith)),
+      h n (le-refl (suc n)),
+      mul-add down (sumTo n c) (c n),
+      mul-add up (sumTo n c) (c n),
+    )
+
+-- rows before columns, or columns before rows
+pub sum-swap : (n m : ℕ) (g : ℕ → ℕ → ℕ) → sumTo n (λ (i : ℕ). sumTo m (λ (j : ℕ). g i j)) ≡ sumTo m (λ (j : ℕ). sumTo n (λ (i : ℕ). g i j))
+unfolding sumTo
+sum-swap zero m g = sym (sum-zero m (λ (j : ℕ). 0) (λ k l. refl))
+sum-swap (suc n) m g =
+    ap (λ (x : ℕ). x + sumTo m (λ (j : ℕ). g n j)) (sum-swap n m g) ∙ sym (sum-add m (λ (j : ℕ). sumTo n (λ (i : ℕ). g i j)) (λ (j : ℕ). g n j))
+
 -- two parts, end to end
 pub sum-split : (a n : ℕ) (f : ℕ → ℕ) → sumTo (a + n) f ≡ sumTo a f + sumTo n (λ (k : ℕ). f (a + k))
 unfolding sumTo
 sum-split a zero f = rw (add-zero a) (sym (add-zero (sumTo a f)))
 sum-split a (suc n) f = rw (add-suc a n) (omega (arith, sum-split a n f))
+
+-- row by row
+pub sum-rows : (h w : ℕ) (f : ℕ → ℕ) → sumTo (h * w) f ≡ sumTo h (λ (y : ℕ). sumTo w (λ (x : ℕ). f (y * w + x)))
+unfolding sumTo
+sum-rows zero w f = ap (λ (n : ℕ). sumTo n f) (zero-mul w)
+sum-rows (suc h) w f =
+    ap (λ (n : ℕ). sumTo n f) (suc-mul h w)
+    ∙ sum-split (h * w) w f
+    ∙ ap (λ (s : ℕ). s + sumTo w (λ (x : ℕ). f (h * w + x))) (sum-rows h w f)
+
+-- the first term apart
+pub sum-front : (n : ℕ) (f : ℕ → ℕ) → sumTo (suc n) f ≡ f 0 + sumTo n (λ (k : ℕ). f (suc k))
+unfolding sumTo
+sum-front zero f = omega arith
+sum-front (suc n) f = omega (arith, sum-front n f)
+
+-- from the other end
+pub sum-back : (n : ℕ) (f : ℕ → ℕ) → sumTo n (λ (k : ℕ). f (n - suc k)) ≡ sumTo n f
+sum-back zero f = sym (sum-none (λ (k : ℕ). f (0 - suc k))) ∙ sum-none f
+sum-back (suc n) f =
+    let last : suc n - suc 0 ≡ n = omega arith in
+    sum-front n (λ (k : ℕ). f (suc n - suc k))
+    ∙ ap₂ (λ (x y : ℕ). x + y) (ap f last)
+    (sum-ext n (λ (k : ℕ). f (suc n - suc (suc k))) (λ (k : ℕ). f (n - suc k)) (λ k l. let e : suc n - suc (suc k) ≡ n - suc k = omega arith in ap f e) ∙ sum-back n f)
+    ∙ add-comm (f n) (sumTo n f)
+    ∙ sum-more n f
+    ∙ ap (λ (m : ℕ). sumTo m f) (add-one n)
 
 -- a range, as what two sums from the start differ by
 pub range : (a b : ℕ) (f : ℕ → ℕ) → a ≤ b → sumTo a f + sumIn a b f ≡ sumTo b f
@@ -102,6 +179,16 @@ in-cut a b f =
     rw (e, n))
     (lt-or-ge a b)
 
+-- a range of n numbers, from the other end
+pub in-back : (n a b : ℕ) (f : ℕ → ℕ) → b ≤ n → sumIn a b (λ (k : ℕ). f (n - suc k)) ≡ sumIn (n - b) (n - a) f
+unfolding sumIn
+in-back n a b f h =
+    let m : (n - a) - (n - b) ≡ b - a = omega arith in
+    sym (sum-back (b - a) (λ (k : ℕ). f (n - suc (a + k))))
+    ∙ sum-ext (b - a) (λ (k : ℕ). f (n - suc (a + (b - a - suc k)))) (λ (k : ℕ). f ((n - b) + k))
+    (λ k l. let e : n - suc (a + (b - a - suc k)) ≡ (n - b) + k = omega arith in ap f e)
+    ∙ ap (λ (c : ℕ). sumTo c (λ (k : ℕ). f ((n - b) + k))) (sym m)
+
 module _ (a b : ℕ) where
   pub in-ext : (f g : ℕ → ℕ) → ((k : ℕ) → a ≤ k → k < b → f k ≡ g k) → sumIn a b f ≡ sumIn a b g
   unfolding sumIn
@@ -111,10 +198,25 @@ module _ (a b : ℕ) where
   unfolding sumIn
   in-le B f h = sum-le (b - a) B (λ (k : ℕ). f (a + k)) (λ k l. h (a + k) (omega arith) (omega arith))
 
+  pub in-same : (c : ℕ) (f : ℕ → ℕ) → ((k : ℕ) → a ≤ k → k < b → f k ≡ c) → sumIn a b f ≡ (b - a) * c
+  unfolding sumIn
+  in-same c f h = sum-same (b - a) c (λ (k : ℕ). f (a + k)) (λ k l. h (a + k) (omega arith) (omega arith))
+
   pub in-scaled : (B : ℕ) (f g : ℕ → ℕ) → ((k : ℕ) → a ≤ k → k < b → g k ≤ B * f k) → sumIn a b g ≤ B * sumIn a b f
   unfolding sumIn
   in-scaled B f g h =
       sum-scaled (b - a) B (λ (k : ℕ). f (a + k)) (λ (k : ℕ). g (a + k)) (λ k l. h (a + k) (omega arith) (omega arith))
+
+  pub in-shift : (up down : ℕ) (c f g : ℕ → ℕ) → ((k : ℕ) → a ≤ k → k < b → g k + down * c k ≡ f k + up * c k)
+      → sumIn a b g + down * sumIn a b c ≡ sumIn a b f + up * sumIn a b c
+  unfolding sumIn
+  in-shift up down c f g h =
+      sum-shift (b - a) up down (λ (k : ℕ). c (a + k)) (λ (k : ℕ). f (a + k)) (λ (k : ℕ). g (a + k)) (λ k l. h (a + k) (omega arith) (omega arith))
+
+  pub in-above : (B : ℕ) (f g : ℕ → ℕ) → ((k : ℕ) → a ≤ k → k < b → B * f k ≤ g k) → B * sumIn a b f ≤ sumIn a b g
+  unfolding sumIn
+  in-above B f g h =
+      sum-above (b - a) B (λ (k : ℕ). f (a + k)) (λ (k : ℕ). g (a + k)) (λ k l. h (a + k) (omega arith) (omega arith))
 
 module _ (a b l r : ℕ) (f g : ℕ → ℕ → ℕ) where
   pub box-ext : ((u v : ℕ) → a ≤ u → u < b → l ≤ v → v < r → f u v ≡ g u v) → sumBox a b l r f ≡ sumBox a b l r g
@@ -128,6 +230,31 @@ module _ (a b l r : ℕ) (f g : ℕ → ℕ → ℕ) where
   box-scaled B h =
       in-scaled a b B (λ (u : ℕ). sumIn l r (λ (v : ℕ). f u v)) (λ (u : ℕ). sumIn l r (λ (v : ℕ). g u v))
       (λ u p q. in-scaled l r B (λ (v : ℕ). f u v) (λ (v : ℕ). g u v) (λ v s t. h u v p q s t))
+
+  pub box-shift : (up down : ℕ) (c : ℕ → ℕ → ℕ)
+      → ((u v : ℕ) → a ≤ u → u < b → l ≤ v → v < r → g u v + down * c u v ≡ f u v + up * c u v)
+      → sumBox a b l r g + down * sumBox a b l r c ≡ sumBox a b l r f + up * sumBox a b l r c
+  unfolding sumBox
+  box-shift up down c h =
+      in-shift a b up down (λ (u : ℕ). sumIn l r (λ (v : ℕ). c u v)) (λ (u : ℕ). sumIn l r (λ (v : ℕ). f u v)) (λ (u : ℕ). sumIn l r (λ (v : ℕ). g u v))
+      (λ u p q. in-shift l r up down (λ (v : ℕ). c u v) (λ (v : ℕ). f u v) (λ (v : ℕ). g u v) (λ v s t. h u v p q s t))
+
+  pub box-above : (B : ℕ) → ((u v : ℕ) → a ≤ u → u < b → l ≤ v → v < r → B * f u v ≤ g u v) → B * sumBox a b l r f ≤ sumBox a b l r g
+  unfolding sumBox
+  box-above B h =
+      in-above a b B (λ (u : ℕ). sumIn l r (λ (v : ℕ). f u v)) (λ (u : ℕ). sumIn l r (λ (v : ℕ). g u v))
+      (λ u p q. in-above l r B (λ (v : ℕ). f u v) (λ (v : ℕ). g u v) (λ v s t. h u v p q s t))
+
+-- a box by its columns
+pub box-turned : (a b l r : ℕ) (g : ℕ → ℕ → ℕ) → sumBox a b l r g ≡ sumBox l r a b (λ (v u : ℕ). g u v)
+unfolding sumBox sumIn
+box-turned a b l r g = sum-swap (b - a) (r - l) (λ (u v : ℕ). g (a + u) (l + v))
+
+module _ (a b l r : ℕ) where
+  pub box-le : (B : ℕ) (f : ℕ → ℕ → ℕ) → ((u v : ℕ) → a ≤ u → u < b → l ≤ v → v < r → f u v ≤ B) → sumBox a b l r f ≤ (b - a) * ((r - l) * B)
+  unfolding sumBox
+  box-le B f h =
+      in-le a b ((r - l) * B) (λ (u : ℕ). sumIn l r (λ (v : ℕ). f u v)) (λ u p q. in-le l r B (λ (v : ℕ). f u v) (λ v s t. h u v p q s t))
 
 -- where a loop that adds row by row begins, and a turn of it
 pub box-none : (a l r : ℕ) (g : ℕ → ℕ → ℕ) → 0 ≡ sumBox a a l r g

@@ -8,3 +8,7 @@ unfoldable pub firstTo : ℕ → (ℕ → Bool) → ℕ
 firstTo zero test = 0
 firstTo (suc n) test =
     cond (ltb (firstTo n test) n) (firstTo n test) (cond (test n) n (suc n))
+
+-- whether the test holds at some index below n
+abbrev pub someTo : ℕ → (ℕ → Bool) → Bool
+someTo n test = ltb (firstTo n test) n

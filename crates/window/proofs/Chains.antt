@@ -1,14 +1,14 @@
 -- What the tests that calls share tell where they do not apply, and why a later test may be asked of whole buffers alone.
 use Prim.Native.Nat.{ℕ, min, _<_, _≤_}
-use mathlib.Core.Bool.{false}
+use mathlib.Core.Bool.{false, not}
 use mathlib.Core.List.{List}
-use mathlib.Core.Path.{_≡_, ap}
+use mathlib.Core.Path.{_≡_, ap, ap₂, _∙_}
 use native.Mathlib.Omega.{arith}
 use lib.Dec.{eqb, ltb}
 use lib.ListN.{length, getD}
-use borrow.Author.Tests.{eqb-true, ltb-false, not-false}
+use borrow.Author.Tests.{eq-eqb, eqb-true, le-ltb, ltb-false, not-false}
 use Rattle.laws.specs.First.{firstTo}
-use Rattle.laws.proofs.Firsts.{first-nowhere}
+use Rattle.laws.proofs.Firsts.{first-nowhere, nowhere-first}
 use Rattle.window.specs.Shape.{badSides, badScale, sitesOf}
 use Rattle.window.specs.View.{badCode, above, seen}
 use Rattle.window.specs.Verdict.{_⨟_, refuseIf}
@@ -36,13 +36,26 @@ shape-clear w h full e =
 pub same-length : (needed long : ℕ) → otherThan needed long ≡ false → long ≡ needed
 same-length needed long e = eqb-true long needed (not-false (eqb long needed) e)
 
+pub right-length : (needed long : ℕ) → long ≡ needed → otherThan needed long ≡ false
+right-length needed long e = ap not (eq-eqb long needed e)
+
+-- 4 as it is asked of a number of sites come by elsewhere
+pub length-told : {r : Verdict} (needed n long : ℕ) → n ≡ needed → r ≡ refuseIf 4 0 (otherThan n long) → r ≡ refuseIf 4 0 (otherThan needed long)
+length-told needed n long e r = r ∙ rw e
+
 -- 5 does not apply: every code is at most 3
 pub legal-codes : (n : ℕ) (mask : List ℕ) → ltb (firstTo n (badCode mask)) n ≡ false → (i : ℕ) → i < n → getD mask i 0 ≤ 3
 legal-codes n mask e i l = ltb-false 3 (getD mask i 0) (first-nowhere (badCode mask) n e i l)
 
+pub codes-legal : (n : ℕ) (mask : List ℕ) → ((i : ℕ) → i < n → getD mask i 0 ≤ 3) → ltb (firstTo n (badCode mask)) n ≡ false
+codes-legal n mask low = nowhere-first (badCode mask) n (λ i l. le-ltb 3 (getD mask i 0) (low i l))
+
 -- 6 does not apply: nothing that is seen is above full scale
 pub in-range : (n full : ℕ) (view : ℕ → ℕ) → ltb (firstTo n (above full view)) n ≡ false → (i : ℕ) → i < n → view i ≤ full
 in-range n full view e i l = ltb-false full (view i) (first-nowhere (above full view) n e i l)
+
+pub range-in : (n full : ℕ) (view : ℕ → ℕ) → ((i : ℕ) → i < n → view i ≤ full) → ltb (firstTo n (above full view)) n ≡ false
+range-in n full view low = nowhere-first (above full view) n (λ i l. le-ltb full (view i) (low i l))
 
 -- what follows 4 is judged only of a buffer of the length needed
 pub measured : (needed long : ℕ) {b d : Verdict} → (long ≡ needed → b ≡ d)
@@ -61,3 +74,16 @@ samples-whole w h full mask frame e f =
     let n : min (walked w h (length mask)) (walked w h (length frame)) ≡ sitesOf w h =
     omega (arith, walked-whole w h (length mask) e, walked-whole w h (length frame) f) in
     ap (λ (k : ℕ). samplesOf k full (seen mask frame)) n
+
+-- THE STEP every call with a mask and a frame takes: after 4, whatever stands between, 5 and 6 are asked of the whole window
+pub seen-whole : (w h full : ℕ) (mask frame : List ℕ) (between : Verdict → Verdict)
+    → refuseIf 4 0 (otherThan (sitesOf w h) (length mask))
+    ⨟ refuseIf 4 0 (otherThan (sitesOf w h) (length frame))
+    ⨟ between (codesOf (walked w h (length mask)) mask ⨟ samplesOf (min (walked w h (length mask)) (walked w h (length frame))) full (seen mask frame))
+    ≡ refuseIf 4 0 (otherThan (sitesOf w h) (length mask))
+    ⨟ refuseIf 4 0 (otherThan (sitesOf w h) (length frame))
+    ⨟ between (codesOf (sitesOf w h) mask ⨟ samplesOf (sitesOf w h) full (seen mask frame))
+seen-whole w h full mask frame between =
+    measured (sitesOf w h) (length mask) (λ m.
+    measured (sitesOf w h) (length frame) (λ f.
+    ap between (ap₂ (λ (a b : Verdict). a ⨟ b) (codes-whole w h mask m) (samples-whole w h full mask frame m f))))

@@ -1,22 +1,22 @@
 -- The laws of planes, and of what is seen in a box of a plane's coordinates.
-use Prim.Native.Nat.{ℕ, suc, _+_, _*_, _/_, _%_, _<_, _≤_, min, zero-le}
-use mathlib.Core.Bool.{Bool, true, false, cond}
+use Prim.Native.Nat.{ℕ, suc, _+_, _-_, _*_, _/_, _%_, _<_, _≤_, min}
 use mathlib.Core.List.{List}
 use mathlib.Core.Path.{_≡_, sym, ap₂, _∙_}
-use native.Mathlib.Nat.{suc-mul, mul-le-mul, mul-le-mul-right, div-add-mod'}
+use native.Mathlib.Nat.{le-trans, zero-mul, suc-mul, mul-le-mul, mul-le-mul-right, div-add-mod'}
 use native.Mathlib.Omega.{arith}
 use lib.Arith.{digits-div, digits-mod}
 use lib.ListN.{length, getD}
 use borrow.Author.Tests.{eq-eqb, ne-eqb}
 use Rattle.laws.specs.Sum.{sumBox}
-use Rattle.laws.proofs.Sums.{box-ext, box-scaled, box-cut}
+use Rattle.laws.proofs.Sums.{box-ext, box-scaled, box-le, box-shift, box-cut}
 use Rattle.window.specs.Shape.{sitesOf}
-use Rattle.window.specs.View.{surveyed, seenAt, seen, one}
+use Rattle.window.specs.View.{seen, one}
 use Rattle.window.specs.Judge.{walked}
 use Rattle.window.specs.Plane.{rowParity, columnParity, planeOf, planeRow, planeColumn, siteAt, boxSum, sums, boxSums}
 use Rattle.window.specs.declared.PlaneBox.{PlaneBox}
 use Rattle.window.specs.declared.Sums.{Sums}
 use Rattle.window.proofs.Sides.{Sides}
+use Rattle.window.proofs.Views.{seen-is, seen-le, seen-counted}
 use Rattle.window.proofs.Walks.{walked-whole}
 
 module _ (w h plane u : ℕ) (low : u < h / 2) where
@@ -64,9 +64,39 @@ module _ (w h plane : ℕ) (within : PlaneBox) where
   box-same f g same = box-ext _ _ _ _ _ _ (λ u v p q s t. same (siteAt w plane u v) (site-in w h plane u (omega arith) v (omega arith)))
 
   -- a view that is at every site at most B times another
-  pub box-at-most : (B : ℕ) (f g : ℕ → ℕ) → ((i : ℕ) → g i ≤ B * f i) → boxSum w h plane within g ≤ B * boxSum w h plane within f
+  pub box-at-most : (B : ℕ) (f g : ℕ → ℕ) → ((i : ℕ) → i < h * w → g i ≤ B * f i) → boxSum w h plane within g ≤ B * boxSum w h plane within f
   unfolding boxSum
-  box-at-most B f g below = box-scaled _ _ _ _ _ _ B (λ u v p q s t. below (siteAt w plane u v))
+  box-at-most B f g below =
+      box-scaled _ _ _ _ _ _ B (λ u v p q s t. below (siteAt w plane u v) (site-in w h plane u (omega arith) v (omega arith)))
+
+  -- a view that is at every site d times another above a third
+  pub box-above : (d : ℕ) (e f g : ℕ → ℕ) → ((i : ℕ) → i < h * w → g i ≡ f i + d * e i)
+      → boxSum w h plane within g ≡ boxSum w h plane within f + d * boxSum w h plane within e
+  unfolding boxSum
+  box-above d e f g raised =
+      let at : (ℕ → ℕ) → ℕ → ℕ → ℕ = λ view u v. view (siteAt w plane u v) in
+      let shifted =
+          box-shift (within .top) (min (within .bottom) (h / 2)) (within .left) (min (within .right) (w / 2)) (at f) (at g) d 0 (at e)
+          (λ u v p q s t. omega (arith, raised (siteAt w plane u v) (site-in w h plane u (omega arith) v (omega arith)), zero-mul (at e u v))) in
+      omega (arith, shifted, zero-mul (sumBox (within .top) (min (within .bottom) (h / 2)) (within .left) (min (within .right) (w / 2)) (at e)))
+
+  -- a view that is nowhere above 1 adds up to no more than the box has sites
+  pub box-few : (f : ℕ → ℕ) → ((i : ℕ) → f i ≤ 1) → boxSum w h plane within f ≤ (within .bottom - within .top) * (within .right - within .left)
+  unfolding boxSum
+  box-few f low =
+      le-trans (box-le _ _ _ _ 1 _ (λ u v p q s t. low (siteAt w plane u v)))
+      (mul-le-mul (omega arith) (omega arith))
+
+  -- sums of views that agree where the plane's row and column of a site are in the box
+  pub box-seen : (f g : ℕ → ℕ)
+      → ((i : ℕ) → within .top ≤ planeRow w i → planeRow w i < within .bottom → within .left ≤ planeColumn w i → planeColumn w i < within .right → f i ≡ g i)
+      → boxSum w h plane within f ≡ boxSum w h plane within g
+  unfolding boxSum
+  box-seen f g same =
+      box-ext _ _ _ _ _ _
+      (λ u v p q s t. let row = plane-row w plane u v (omega arith) in
+      let column = plane-column w plane u v (omega arith) in
+      same (siteAt w plane u v) (omega arith) (omega arith) (omega arith) (omega arith))
 
   -- the part of a box that lies inside the plane
   pub box-inner : (view : ℕ → ℕ) (top bottom left right : ℕ)
@@ -77,12 +107,8 @@ module _ (w h plane : ℕ) (within : PlaneBox) where
 
 -- samples of at most B: what is seen of them is at most B for each site counted
 pub seen-scaled : (mask frame : List ℕ) (B : ℕ) → ((i : ℕ) → getD frame i 0 ≤ B) → (i : ℕ) → seen mask frame i ≤ B * one mask i
-unfolding seen one seenAt
-seen-scaled mask frame B low i = by (surveyed (getD mask i 0))
-  where
-    by : (b : Bool) → cond b (getD frame i 0) 0 ≤ B * cond b 1 0
-    by true = omega (arith, low i)
-    by false = zero-le
+seen-scaled mask frame B low i =
+    seen-counted mask frame B i (rw seen-is (seen-le (getD mask i 0) (getD frame i 0) B (low i)))
 
 module _ (w h plane : ℕ) (within : PlaneBox) (mask frame : List ℕ) where
   -- buffers that have the window's sites show what is in the box
@@ -115,5 +141,5 @@ module _ (w h plane : ℕ) (within : PlaneBox) (mask frame : List ℕ) where
   sums-told r top bottom left right b e t l c s some small =
       let counted = c ∙ box-inner w h plane within (one mask) top bottom left right b e t l in
       let added = s ∙ box-inner w h plane within (seen mask frame) top bottom left right b e t l in
-      let low = box-at-most w h plane within 65535 (one mask) (seen mask frame) (seen-scaled mask frame 65535 small) in
+      let low = box-at-most w h plane within 65535 (one mask) (seen mask frame) (λ i _. seen-scaled mask frame 65535 small i) in
       (ap₂ sums counted added ∙ sym (sums-whole some), omega arith)

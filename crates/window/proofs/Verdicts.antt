@@ -1,14 +1,14 @@
 -- The laws of verdicts in turn: a number is given exactly where its test applies and none before it does.
 use Prim.Native.Nat.{ℕ, _<_}
 use mathlib.Core.Bool.{Bool, true, false, _&&_}
-use mathlib.Core.List.{List, [], _∷_}
+use mathlib.Core.List.{List, [], _∷_, _++_}
 use mathlib.Core.Path.{_≡_, refl, sym, ap, ap₂, _∙_, subst₂}
 use native.Mathlib.Omega.{arith}
 use lib.Dec.{ltb}
 use borrow.Author.Tests.{ltb-true}
 use Rattle.laws.specs.First.{firstTo}
 use Rattle.laws.proofs.Cases.{and-true}
-use Rattle.window.specs.Verdict.{refusal, _⨟_, refuseIf, numberOf, placeOf}
+use Rattle.window.specs.Verdict.{refusal, _⨟_, refuseIf, refuseFirst, numberOf, placeOf}
 use Rattle.window.specs.declared.Refusal.{Refusal}
 use Rattle.window.specs.declared.Verdict.{Verdict}
 use Rattle.window.specs.declared.Verdict.the-variants.{Clear, Refused}
@@ -47,6 +47,15 @@ pub unless : (k p : ℕ) (b : Bool) → refuseIf k p b ≡ Clear → b ≡ false
 unfolding refuseIf
 unless k p false e = refl
 unless k p true e = not-clear e
+
+-- a search whose number is not given found nothing
+pub not-given : (k n : ℕ) (test : ℕ → Bool) (v : Verdict) → (numberOf (refuseFirst k n test ⨟ v) ≡ k → ⊥) → refuseFirst k n test ⨟ v ≡ v
+unfolding refuseFirst refuseIf _⨟_
+not-given k n test v = by (ltb (firstTo n test) n)
+  where
+    by : (b : Bool) → (numberOf (refuseIf k (firstTo n test) b ⨟ v) ≡ k → ⊥) → refuseIf k (firstTo n test) b ⨟ v ≡ v
+    by true f = absurd (f refl)
+    by false f = refl
 
 -- ---- a table of tests: each a number, a place, and whether it applies
 pub record Test : Type 0 where
@@ -106,7 +115,8 @@ module _ (k p : ℕ) (v : Verdict) where
   unfolding refuseIf _⨟_
   applied b e = rw e
 
-  skipped : (b : Bool) → b ≡ false → refuseIf k p b ⨟ v ≡ v
+  -- a test that does not apply is passed over
+  pub skipped : (b : Bool) → b ≡ false → refuseIf k p b ⨟ v ≡ v
   unfolding refuseIf _⨟_
   skipped b e = rw e
 
@@ -140,14 +150,37 @@ passes (t ∷ ts) e =
     let both = then-clear (asked t) (allOf ts) e in
     past (unless (t .number) (t .place) (t .applies) (both .0)) (passes ts (both .1))
 
+-- a verdict is what a table says exactly where it is all its tests in turn
+all-tabled : (v : Verdict) (ts : List Test) → v ≡ allOf ts → Tabled v ts
+all-tabled v ts e = record {
+  only = λ k p f. gives ts k p (sym e ∙ f);
+  given = λ k p g. e ∙ giving g;
+  clear = λ f. passes ts (sym e ∙ f);
+  passed = λ g. e ∙ passing g;
+}
+
+tabled-all : {ts : List Test} (v : Verdict) → Tabled v ts → v ≡ allOf ts
+tabled-all Clear t = sym (passing (t .clear refl))
+tabled-all (Refused r) t = sym (giving (t .only (r .number) (r .place) refl))
+
 -- THE LAW: tests in turn are what their table says
 pub tabled : (t : Test) (ts : List Test) → Tabled (inTurn t ts) (t ∷ ts)
-tabled t ts = record {
-  only = λ k p e. gives (t ∷ ts) k p (turned t ts ∙ e);
-  given = λ k p g. sym (turned t ts) ∙ giving g;
-  clear = λ e. passes (t ∷ ts) (turned t ts ∙ e);
-  passed = λ g. sym (turned t ts) ∙ passing g;
-}
+tabled t ts = all-tabled (inTurn t ts) (t ∷ ts) (sym (turned t ts))
+
+-- a verdict of no test
+pub tabled-none : Tabled Clear []
+unfolding allOf
+tabled-none = all-tabled Clear [] refl
+
+appended : (ts us : List Test) → allOf (ts ++ us) ≡ allOf ts ⨟ allOf us
+unfolding allOf _⨟_
+appended [] us = refl
+appended (t ∷ ts) us = ap (λ (v : Verdict). asked t ⨟ v) (appended ts us) ∙ sym (then-assoc (asked t) (allOf ts) (allOf us))
+
+-- two verdicts in turn are what their two tables say, one after the other
+pub tabled-then : {ts us : List Test} {a b : Verdict} → Tabled a ts → Tabled b us → Tabled (a ⨟ b) (ts ++ us)
+tabled-then {ts} {us} {a} {b} p q =
+    all-tabled (a ⨟ b) (ts ++ us) (ap₂ (λ (x y : Verdict). x ⨟ y) (tabled-all a p) (tabled-all b q) ∙ sym (appended ts us))
 
 -- ---- demand 1
 -- no test of a table has the number 0, by which an accepted answer is told

@@ -1,8 +1,9 @@
 -- The laws of what is seen through a mask.
-use Prim.Native.Nat.{ℕ, _≤_, zero-le}
+use Prim.Native.Nat.{ℕ, _+_, _*_, _≤_, zero-le}
 use mathlib.Core.Bool.{Bool, true, false, cond}
 use mathlib.Core.List.{List}
 use mathlib.Core.Path.{_≡_, refl, fun-ext}
+use native.Mathlib.Nat.{mul-zero}
 use native.Mathlib.Omega.{arith}
 use lib.ListN.{length, getD}
 use borrow.Author.Tests.{eq-eqb, ne-eqb}
@@ -42,6 +43,34 @@ one-le mask i = rw one-is (seen-le (getD mask i 0) 1 1 (omega arith))
 -- no more sites are surveyed than there are
 pub surveyed-few : (mask : List ℕ) (n : ℕ) → sumTo n (one mask) ≤ n
 surveyed-few mask n = omega (arith, sum-le n 1 (one mask) (λ i l. one-le mask i))
+
+-- samples that are at most B where their site is surveyed
+pub seen-most : (mask frame : List ℕ) (B i : ℕ) → (surveyed (getD mask i 0) ≡ true → getD frame i 0 ≤ B) → seen mask frame i ≤ B
+unfolding seen seenAt
+seen-most mask frame B i = by (surveyed (getD mask i 0))
+  where
+    by : (t : Bool) → (t ≡ true → getD frame i 0 ≤ B) → cond t (getD frame i 0) 0 ≤ B
+    by true h = h refl
+    by false h = zero-le
+
+-- what is seen and at most B is at most B for each site counted
+pub seen-counted : (mask frame : List ℕ) (B i : ℕ) → seen mask frame i ≤ B → seen mask frame i ≤ B * one mask i
+unfolding seen one seenAt
+seen-counted mask frame B i = by (surveyed (getD mask i 0))
+  where
+    by : (t : Bool) → cond t (getD frame i 0) 0 ≤ B → cond t (getD frame i 0) 0 ≤ B * cond t 1 0
+    by true h = omega arith
+    by false h = zero-le
+
+-- a sample that is raised by d where its site is surveyed
+pub seen-raised : (mask f g : List ℕ) (d i : ℕ) → (surveyed (getD mask i 0) ≡ true → getD g i 0 ≡ getD f i 0 + d)
+    → seen mask g i ≡ seen mask f i + d * one mask i
+unfolding seen one seenAt
+seen-raised mask f g d i = by (surveyed (getD mask i 0))
+  where
+    by : (t : Bool) → (t ≡ true → getD g i 0 ≡ getD f i 0 + d) → cond t (getD g i 0) 0 ≡ cond t (getD f i 0) 0 + d * cond t 1 0
+    by true h = let e = h refl in omega arith
+    by false h = omega (arith, mul-zero d)
 
 -- two frames of one length that hold the same at every surveyed site
 pub record Agree (mask f g : List ℕ) : Type 0 where
