@@ -45,7 +45,7 @@ module _ (w h full k : ℕ) (mask frame sums squares : List ℕ) where
       → (a ≡ b) × (s ≡ t) × (q ≡ r)
   add-only a b s t q r x y = (x .0 ∙ sym (y .0), x .1 ∙ sym (y .1), x .2 ∙ sym (y .2))
 
-  -- given: 1 to 12 exactly as document 01 tables them, in that order (`Adds.tests` has the table)
+  -- given: 1 to 6, 11 and 12 exactly as document 01 tables them, in that order (`Adds.tests` has the table)
   pub add-given : Tabled (addVerdict w h full k mask frame sums squares) (adds.tests w h full k mask frame sums squares)
   add-given = adds.table w h full k mask frame sums squares
 
@@ -97,7 +97,7 @@ module _ (w h full k : ℕ) (mask sums squares : List ℕ) where
   pub variance-only : (a b : Variance) → a ≡ varianceAnswer w h full k mask sums squares → b ≡ varianceAnswer w h full k mask sums squares → a ≡ b
   variance-only a b p q = p ∙ sym q
 
-  -- given: 1 to 14 exactly as document 01 tables them, in that order (`Variances.tests` has the table)
+  -- given: 1 to 5, 7, 11 and 14 exactly as document 01 tables them, in that order (`Variances.tests` has the table)
   pub variance-given : Tabled (varianceVerdict w h full k mask sums squares) (variances.tests w h full k mask sums squares)
   variance-given = variances.table w h full k mask sums squares
 

@@ -248,7 +248,7 @@ module _ (w h full : ℕ) (mask : List ℕ) where
       }
 
   -- ---- the variance of a run
-  -- what stands at a site of a stack, less what stands there of its sums
+  -- its numerator is that of the frames' own sums
   pub run-spread : (fs : List (List ℕ))
       → spread (sitesOf w h) (length fs) (seen mask (stackOf fs .sums)) (seen mask (stackOf fs .squares))
       ≡ spread (sitesOf w h) (length fs) (sumAt mask fs) (squareAt mask fs)

@@ -1,4 +1,4 @@
--- One turn of adding: what stands at the site still is what stood there, so the sum that is stored is the one that is defined.
+-- What one turn of each loop does, over plain values.
 use Prim.Native.Nat.{ℕ, _+_, _-_, _*_, _^_, _≤_, _<_}
 use mathlib.Core.Bool.{Bool, true, false, _&&_}
 use mathlib.Core.Logic.{⊎-elim}
@@ -20,6 +20,7 @@ use Rattle.window.specs.declared.Verdict.the-variants.{Clear}
 use Rattle.window.proofs.Views.{seen-is, seen-in}
 use Rattle.stack.specs.Sums.{impossible, impossibleAt, impossibleIn, added, spread, readable}
 
+-- adding: what stands at the site still is what stood there, so the sum that is stored is the one that is defined
 module _ (view : ℕ → ℕ) {d l : List ℕ} {i v : ℕ} (so-far : Filling (λ (k : ℕ). getD d k 0 + view k) d l i) (here : v ≡ view i) where
   stored : getD l i 0 + v ≡ getD d i 0 + view i
   stored = ap₂ (λ (x y : ℕ). x + y) (filling-rest so-far i (le-refl i)) here

@@ -105,7 +105,7 @@ fn possible(full_scale: u64, frames: u64, mask: &[u8], sums: &[u32], squares: &[
     Verdict::Clear
 }
 
-// Refusals 1 to 12 of a frame that is offered.
+// Refusals 1 to 6, 11 and 12 of a frame that is offered.
 fn judge_frame(
     width: usize,
     height: usize,
@@ -212,6 +212,7 @@ fn excess(frames: u64, sum: u32, square: u32) -> u64
     if whole < taken { 0 } else { whole - taken }
 }
 
+// The sum of k × q − s² over the surveyed sites.
 fn sum_excess(frames: u64, mask: &[u8], sums: &[u32], squares: &[u32]) -> u64
     requires { ⌜ (frames ≤ 100) × (length (now mask) ≤ 16384) × (length (now sums) ≡ length (now mask)) × (length (now squares) ≡ length (now mask)) ⌝ }
     ensures { λ r. ⌜ r ≡ spread (length (now (mask .entry))) frames (seen (now (mask .entry)) (now (sums .entry))) (seen (now (mask .entry)) (now (squares .entry))) ⌝ }
@@ -241,7 +242,7 @@ fn spread(full_scale: u64, frames: u64, mask: &[u8], sums: &[u32], squares: &[u3
 // 2 ^ 53: whole numbers below it have an exact f64.
 const EXACT: u64 = 0x20_0000_0000_0000;
 
-// Refusals 1 to 14 of a stack with this many surveyed sites and this numerator.
+// Refusals 1 to 5, 7, 11 and 14 of a stack with this many surveyed sites and this numerator.
 fn judge_stack(
     width: usize,
     height: usize,
