@@ -1,0 +1,152 @@
+-- The tests in the order of document 01, why the code may ask the later ones of whole buffers, and what an accepted call has passed.
+use Prim.Native.Nat.{ℕ, _*_, _<_, _≤_}
+use mathlib.Core.Bool.{Bool, false}
+use mathlib.Core.List.{List, [], _∷_}
+use mathlib.Core.Path.{_≡_, refl, sym, ap, ap₂, _∙_}
+use native.Mathlib.Omega.{arith}
+use lib.Dec.{eqb, ltb}
+use lib.ListN.{length, getD}
+use borrow.Author.Tests.{eqb-true, eqb-false, ltb-false, not-false}
+use Rattle.laws.specs.First.{someTo}
+use Rattle.laws.proofs.Cases.{neither}
+use Rattle.laws.proofs.Firsts.{first-nowhere, first-ext}
+use Rattle.window.specs.Shape.{badSides, badScale, sitesOf}
+use Rattle.window.specs.View.{badCode, surveyed, seen, above}
+use Rattle.window.specs.Verdict.{_⨟_, refuseIf, refuseFirst}
+use Rattle.window.specs.Judge.{shapeOf, otherThan, codesOf, walked}
+use Rattle.window.specs.declared.Refusal.{Refusal}
+use Rattle.window.specs.declared.Verdict.the-variants as verdict
+use Rattle.window.proofs.Sides.{Sides, Scale, sides, scale}
+use Rattle.window.proofs.Verdicts.{Tabled, test, testFirst, tabled, passed-head, passed-tail, then-same, then-clear, then-assoc, unless}
+use Rattle.window.proofs.Chains.{same-length, in-range, measured, codes-whole}
+use Rattle.window.proofs.Views.{seen-is, seen-in}
+use Rattle.pattern.specs.Lines.{Lines, lineTotal}
+use Rattle.pattern.specs.Pattern.{badCount, unsurveyed, patternVerdict, patternFigures, patternAnswer, paperOf, patternPaper}
+use Rattle.pattern.specs.Walk.{lined, lineOf, held, Accepted}
+use Rattle.pattern.specs.declared.Figures.{Figures}
+use Rattle.pattern.specs.declared.Pattern.the-variants.{Measured, Refused}
+use Rattle.pattern.proofs.Totals.{count-is, total-ext}
+use Rattle.pattern.proofs.Figuring.{figures-ext}
+
+-- 8 does not apply: every code is 0
+pub all-surveyed : (n : ℕ) (mask : List ℕ) → someTo n (unsurveyed mask) ≡ false → (i : ℕ) → i < n → getD mask i 0 ≡ 0
+all-surveyed n mask e i l =
+    eqb-true (getD mask i 0) 0 (not-false (surveyed (getD mask i 0)) (first-nowhere (unsurveyed mask) n e i l))
+
+-- so every sum is seen
+pub sums-seen : (n : ℕ) (mask sums : List ℕ) → someTo n (unsurveyed mask) ≡ false → (i : ℕ) → i < n → held sums i ≡ seen mask sums i
+sums-seen n mask sums e i l = sym (seen-is mask sums i ∙ seen-in (getD mask i 0) (held sums i) (all-surveyed n mask e i l))
+
+-- 2 and 3 do not apply: the numbers are within their limits
+shape-scale : (w h full : ℕ) → shapeOf w h full ≡ verdict.Clear → full ≤ 4095
+unfolding shapeOf
+shape-scale w h full e =
+    scale full (unless 2 0 (badScale full) (then-clear (refuseIf 1 0 (badSides w h)) (refuseIf 2 0 (badScale full)) e .1)) .high
+
+pub count-high : (k : ℕ) → badCount k ≡ false → k ≤ 100
+unfolding badCount
+count-high k e = ltb-false 100 k (neither (eqb k 0) (ltb 100 k) e .1)
+
+module _ (vertical : Bool) (w h full k : ℕ) (mask sums : List ℕ) where
+  -- the code's chain: it walks whole buffers, sums without their codes, and a product that is formed only within the limits
+  pub judged : (most : ℕ) → (full ≤ 4095 → k ≤ 100 → most ≡ k * full)
+      → shapeOf w h full
+      ⨟ refuseIf 3 0 (badCount k)
+      ⨟ refuseIf 4 0 (otherThan (sitesOf w h) (length mask))
+      ⨟ refuseIf 4 0 (otherThan (sitesOf w h) (length sums))
+      ⨟ codesOf (walked w h (length mask)) mask
+      ⨟ refuseIf 8 0 (someTo (length mask) (unsurveyed mask))
+      ⨟ refuseIf 9 0 (ltb (lineOf vertical h w) 12)
+      ⨟ refuseIf 11 0 (someTo (length sums) (above most (held sums)))
+      ≡ patternVerdict (lined vertical) w h full k mask sums
+  unfolding patternVerdict
+  judged most product =
+      then-same (shapeOf w h full) (λ s.
+      then-same (refuseIf 3 0 (badCount k)) (λ c.
+      measured (sitesOf w h) (length mask) (λ m.
+      measured (sitesOf w h) (length sums) (λ l.
+      ap₂ _⨟_ (codes-whole w h mask m)
+      (rw (m, l, count-is vertical w h)
+      (then-same (refuseIf 8 0 (someTo (sitesOf w h) (unsurveyed mask))) (λ u.
+      ap (λ (n : ℕ). refuseIf 9 0 (ltb (lineOf vertical h w) 12) ⨟ refuseIf 11 0 (ltb n (sitesOf w h)))
+      (first-ext (sitesOf w h) (above most (held sums)) (above (k * full) (seen mask sums))
+      (λ i j. ap₂ ltb (product (shape-scale w h full s) (count-high k (unless 3 0 (badCount k) c)))
+      (sums-seen (sitesOf w h) mask sums (unless 8 0 (someTo (sitesOf w h) (unsurveyed mask)) u) i j))))))))))
+
+-- the tests in the order of document 01
+pub table : (lines : ℕ → ℕ → Lines) (w h full k : ℕ) (mask sums : List ℕ)
+    → Tabled (patternVerdict lines w h full k mask sums)
+    (test 1 0 (badSides w h)
+    ∷ test 2 0 (badScale full)
+    ∷ test 3 0 (badCount k)
+    ∷ test 4 0 (otherThan (sitesOf w h) (length mask))
+    ∷ test 4 0 (otherThan (sitesOf w h) (length sums))
+    ∷ testFirst 5 (sitesOf w h) (badCode mask)
+    ∷ test 8 0 (someTo (sitesOf w h) (unsurveyed mask))
+    ∷ test 9 0 (ltb (lines w h .count) 12)
+    ∷ test 11 0 (someTo (sitesOf w h) (above (k * full) (seen mask sums)))
+    ∷ [])
+unfolding patternVerdict shapeOf refuseFirst
+table lines w h full k mask sums = rw (then-assoc (refuseIf 1 0 (badSides w h)) (refuseIf 2 0 (badScale full))) (tabled _ _)
+
+-- what an accepted call has passed
+pub record Clean (vertical : Bool) (w h full k : ℕ) (mask sums : List ℕ) : Type 0 where
+  pub legal : Sides w h
+  pub range : Scale full
+  pub some : 1 ≤ k
+  pub enough : 12 ≤ lineOf vertical h w
+  pub fair : Accepted w h full k sums
+  pub whole : (i : ℕ) → i < h * w → held sums i ≡ seen mask sums i
+
+count-low : (k : ℕ) → badCount k ≡ false → 1 ≤ k
+unfolding badCount
+count-low k e = let some = eqb-false k 0 (neither (eqb k 0) (ltb 100 k) e .0) in omega arith
+
+module _ (vertical : Bool) (w h full k : ℕ) (mask sums : List ℕ) where
+  pub clean : patternVerdict (lined vertical) w h full k mask sums ≡ verdict.Clear → Clean vertical w h full k mask sums
+  clean e =
+      let n = sitesOf w h in
+      let p₁ = table (lined vertical) w h full k mask sums .clear e in
+      let p₃ = passed-tail (passed-tail p₁) in
+      let p₄ = passed-tail (passed-tail p₃) in
+      let p₈ = passed-tail (passed-tail p₄) in
+      let p₁₁ = passed-tail (passed-tail p₈) in
+      let legal = sides w h (passed-head p₁) in
+      let range = scale full (passed-head (passed-tail p₁)) in
+      let seeing : (i : ℕ) → i < h * w → held sums i ≡ seen mask sums i =
+      λ i l. sums-seen n mask sums (passed-head p₈) i (omega (arith, legal .sites)) in
+      let most : (i : ℕ) → i < h * w → seen mask sums i ≤ k * full =
+      λ i l. in-range n (k * full) (seen mask sums) (passed-head p₁₁) i (omega (arith, legal .sites)) in
+      record {
+        legal = legal;
+        range = range;
+        some = count-low k (passed-head p₃);
+        enough = rw (← count-is vertical w h) (ltb-false (lined vertical w h .count) 12 (passed-head (passed-tail p₈)));
+        fair = record {
+          wide = legal .wide .high;
+          high = legal .high .high;
+          scale = range .high;
+          frames = count-high k (passed-head p₃);
+          long = same-length n (length sums) (passed-head p₄) ∙ legal .sites;
+          possible = λ i l. rw (seeing i l) (most i l);
+        };
+        whole = seeing;
+      }
+
+  -- the figures are of the sums as they are seen
+  pub figures-seen : Clean vertical w h full k mask sums
+      → patternFigures (lined vertical w h) full k (held sums) ≡ patternFigures (lined vertical w h) full k (seen mask sums)
+  figures-seen c =
+      figures-ext (lined vertical w h .count) (lineTotal (lined vertical w h) (held sums)) (lineTotal (lined vertical w h) (seen mask sums))
+      (rw (count-is vertical w h) (c .enough)) (total-ext vertical w h (held sums) (seen mask sums) (c .whole)) (lined vertical w h .long * k * full)
+
+module _ (lines : ℕ → ℕ → Lines) (w h full k : ℕ) (mask sums : List ℕ) where
+  pub refused-is : (r : Refusal) → patternVerdict lines w h full k mask sums ≡ verdict.Refused r
+      → (Refused r ≡ patternAnswer lines w h full k mask sums) × (paperOf (Refused r) ≡ patternPaper lines w h full k mask sums)
+  unfolding patternAnswer patternPaper
+  refused-is r e = rw e (refl, refl)
+
+  pub accepted-is : (figures : Figures) → patternVerdict lines w h full k mask sums ≡ verdict.Clear → figures ≡ patternFigures (lines w h) full k (seen mask sums)
+      → (Measured figures ≡ patternAnswer lines w h full k mask sums) × (paperOf (Measured figures) ≡ patternPaper lines w h full k mask sums)
+  unfolding patternAnswer patternPaper
+  accepted-is figures e f = rw (e, f) (refl, refl)

@@ -1,0 +1,169 @@
+-- What is promised of `pattern_vertical` and `pattern_horizontal`, for any numbers, any mask and any sums.
+use Prim.Native.Nat.{ℕ, _-_, _*_, _<_, _≤_}
+use mathlib.Core.Bool.{Bool, false}
+use mathlib.Core.List.{List, [], _∷_}
+use mathlib.Core.Path.{_≡_, refl, sym, ap, _∙_}
+use native.Mathlib.Nat.{mul-assoc}
+use native.Mathlib.Omega.{arith}
+use lib.Dec.{ltb}
+use lib.IntN.{pos, natAbs}
+use lib.ListN.{length}
+use Rattle.laws.specs.First.{someTo}
+use Rattle.laws.proofs.Cases.{times-le}
+use Rattle.window.specs.Shape.{badSides, badScale, sitesOf}
+use Rattle.window.specs.View.{badCode, seen, above}
+use Rattle.window.specs.Judge.{otherThan}
+use Rattle.window.specs.declared.Verdict.{Verdict}
+use Rattle.window.specs.declared.Verdict.the-variants as verdict
+use Rattle.window.proofs.Verdicts.{Tabled, Refuses, test, testFirst, refuses}
+use Rattle.window.proofs.Views.{Agree, same-view}
+use Rattle.pattern.specs.Lines.{Lines, columns, rows, lineTotal}
+use Rattle.pattern.specs.Figures.{noFigures, figuresOf}
+use Rattle.pattern.specs.Pattern.{badCount, unsurveyed, patternVerdict, patternFigures, answered, patternAnswer, Paper, paperOf, patternPaper}
+use Rattle.pattern.specs.Walk.{lined, held}
+use Rattle.pattern.specs.declared.Figures.{Figures}
+use Rattle.pattern.specs.declared.Pattern.{Pattern}
+use Rattle.pattern.specs.declared.Pattern.the-variants.{Measured, Refused}
+use Rattle.pattern.proofs.Totals.{count-is, long-is, side-le, side-ge, total-le, total-flat}
+use Rattle.pattern.proofs.Figuring.{level-le, max-le, level-flat, max-flat}
+use Rattle.pattern.proofs.Judges.{Clean, table, clean, figures-seen}
+use Rattle.pattern.proofs.Measures.{unit-le}
+use Rattle.pattern.proofs.Turns.{Turned, verdict-turned, figures-turned}
+
+-- of either call: `lines` is `columns` or `rows`
+module _ (lines : ℕ → ℕ → Lines) (w h full k : ℕ) (mask : List ℕ) where
+  -- only: no second answer meets the promise
+  pub only : (sums : List ℕ) (a b : Pattern) → a ≡ patternAnswer lines w h full k mask sums → b ≡ patternAnswer lines w h full k mask sums → a ≡ b
+  only sums a b p q = p ∙ sym q
+
+  -- blind: sums that agree at every surveyed site get the same answer
+  pub blind : {sums others : List ℕ} → Agree mask sums others
+      → patternAnswer lines w h full k mask sums ≡ patternAnswer lines w h full k mask others
+  unfolding patternAnswer patternVerdict
+  blind a = rw (a .long, same-view a)
+
+  -- given: 1, 2, 3, 4, 5, 8, 9 and 11 exactly as document 01 tables them, in that order
+  pub given : (sums : List ℕ)
+      → Tabled (patternVerdict lines w h full k mask sums)
+      (test 1 0 (badSides w h)
+      ∷ test 2 0 (badScale full)
+      ∷ test 3 0 (badCount k)
+      ∷ test 4 0 (otherThan (sitesOf w h) (length mask))
+      ∷ test 4 0 (otherThan (sitesOf w h) (length sums))
+      ∷ testFirst 5 (sitesOf w h) (badCode mask)
+      ∷ test 8 0 (someTo (sitesOf w h) (unsurveyed mask))
+      ∷ test 9 0 (ltb (lines w h .count) 12)
+      ∷ test 11 0 (someTo (sitesOf w h) (above (k * full) (seen mask sums)))
+      ∷ [])
+  given sums = table lines w h full k mask sums
+
+  -- refused: where the number is not 0 every figure is 0, and where it is 0 so is the place
+  pub refused : (sums : List ℕ)
+      → Refuses (patternPaper lines w h full k mask sums .number) (patternPaper lines w h full k mask sums .place)
+      (patternPaper lines w h full k mask sums .figures ≡ noFigures)
+  unfolding patternPaper
+  refused sums = refuses (patternVerdict lines w h full k mask sums) (given sums) refl (λ r e. rw e)
+
+-- ---- of an accepted call, vertical or horizontal
+measured : (v : Verdict) (f g : Figures) → answered v f ≡ Measured g → (v ≡ verdict.Clear) × (g ≡ f)
+measured verdict.Clear f g e = (refl, sym (ap (λ (a : Pattern). paperOf a .figures) e))
+measured (verdict.Refused r) f g e = let z : _≡_ {A = ℕ} 0 1 = cc in absurd (omega arith)
+
+-- the level is from 0 to 1 and Max from -1 to 1, and all four numbers are far within 64 bits
+pub record Bounded (f : Figures) : Type 0 where
+  pub level : f .«level_numerator» ≤ f .«level_denominator»
+  pub level-some : 0 < f .«level_denominator»
+  pub level-room : f .«level_denominator» ≤ 348924506112000000
+  pub max : natAbs (f .«max_numerator») ≤ f .«max_denominator»
+  pub max-some : 0 < f .«max_denominator»
+  pub max-room : f .«max_denominator» ≤ 524160000
+
+module _ (vertical : Bool) (w h full k : ℕ) (mask sums : List ℕ) (figures : Figures)
+    (accepted : patternAnswer (lined vertical) w h full k mask sums ≡ Measured figures) where
+  passed : Clean vertical w h full k mask sums
+  unfolding patternAnswer
+  passed =
+      clean vertical w h full k mask sums
+      (measured (patternVerdict (lined vertical) w h full k mask sums) (patternFigures (lined vertical w h) full k (seen mask sums)) figures accepted .0)
+
+  are : figures ≡ patternFigures (lined vertical w h) full k (held sums)
+  unfolding patternAnswer
+  are =
+      measured (patternVerdict (lined vertical) w h full k mask sums) (patternFigures (lined vertical w h) full k (seen mask sums)) figures accepted .1
+      ∙ sym (figures-seen vertical w h full k mask sums passed)
+
+  enough : 12 ≤ lined vertical w h .count
+  enough = rw (count-is vertical w h) (passed .enough)
+
+  -- bounded: nothing overflows within the limits
+  pub bounded : Bounded figures
+  unfolding figuresOf
+  bounded = rw are (record {
+    level = level-le n unit C enough small;
+    level-some = times-le 1 (1 * 1) (n - 1) (unit * unit) (omega (arith, enough)) (times-le 1 1 unit unit unit-low unit-low);
+    level-room = times-le (n - 1) (unit * unit) 127 2747437056000000 few (times-le unit unit 52416000 52416000 unit-high unit-high);
+    max = max-le n unit C enough small;
+    max-some = omega (arith, unit-low);
+    max-room = omega (arith, unit-high);
+  })
+    where
+      n : ℕ
+      n = lined vertical w h .count
+
+      unit : ℕ
+      unit = lined vertical w h .long * k * full
+
+      C : ℕ → ℕ
+      C = lineTotal (lined vertical w h) (held sums)
+
+      small : (i : ℕ) → i < n → C i ≤ unit
+      small i l = omega (arith, total-le vertical w h (held sums) (k * full) (passed .fair .possible) i l, mul-assoc (lined vertical w h .long) k full)
+
+      few : n - 1 ≤ 127
+      few = omega (arith, count-is vertical w h, side-le vertical h w 128 (passed .fair .high) (passed .fair .wide))
+
+      sites : 1 ≤ lined vertical w h .long
+      sites = omega (arith, long-is vertical w h, side-ge vertical w h 2 (passed .legal .wide .low) (passed .legal .high .low))
+
+      unit-low : 1 ≤ unit
+      unit-low = times-le 1 1 (lined vertical w h .long * k) full (times-le 1 1 (lined vertical w h .long) k sites (passed .some)) (passed .range .low)
+
+      unit-high : unit ≤ 52416000
+      unit-high = rw (long-is vertical w h) (unit-le vertical w h full k sums (passed .fair))
+
+  -- even: a window of equal sums has level 0 and Max 0
+  pub even : (s : ℕ) → ((i : ℕ) → i < h * w → held sums i ≡ s) → (figures .«level_numerator» ≡ 0) × (figures .«max_numerator» ≡ pos 0)
+  unfolding figuresOf
+  even s same = rw are (level-flat n c C enough flat, max-flat n c C enough flat)
+    where
+      n : ℕ
+      n = lined vertical w h .count
+
+      c : ℕ
+      c = lined vertical w h .long * s
+
+      C : ℕ → ℕ
+      C = lineTotal (lined vertical w h) (held sums)
+
+      flat : (i : ℕ) → i < n → C i ≡ c
+      flat = total-flat vertical w h (held sums) s same
+
+-- ---- one call by the other
+-- turned: the vertical call of a window is the horizontal call of its transpose, but for the place of a 5
+pub record SameButPlace (p q : Paper) : Type 0 where
+  pub number : p .number ≡ q .number
+  pub figures : p .figures ≡ q .figures
+  pub place : (p .number ≡ 5 → ⊥) → p .place ≡ q .place
+
+pub turned : (w h full k : ℕ) {mask mask' sums sums' : List ℕ} → Turned w h mask mask' → Turned w h sums sums'
+    → SameButPlace (patternPaper columns w h full k mask sums) (patternPaper rows h w full k mask' sums')
+unfolding patternPaper
+turned w h full k {mask} {mask'} {sums} {sums'} m s =
+    let twin = verdict-turned w h full k m s in
+    record {
+      number = twin .number;
+      figures =
+          twin .clear (patternFigures (columns w h) full k (seen mask sums)) (patternFigures (rows h w) full k (seen mask' sums'))
+          (λ e. figures-turned w h full k m s (clean false h w full k mask' sums' e .enough));
+      place = twin .place;
+    }

@@ -1,0 +1,122 @@
+use Prim.Native.Nat.{ℕ}
+use mathlib.Core.Path.{ap, ap₂, _∙_}
+use lib.Dec.{ltb}
+use lib.ListN.{length}
+use borrow.Author.Needs.{needs}
+use Rattle.window.specs.Verdict.{_⨟_, refuseIf}
+use Rattle.window.specs.Judge.{otherThan}
+use Rattle.pattern.proofs.Judges.{judged}
+use Rattle.pattern.proofs.judge.Statement.{statement}
+use Rattle.pattern.proofs.judge.Tie as tie
+
+sites-requires : tie.Need-sites-requires
+sites-requires c κs = search needs
+
+shape-requires : tie.Need-shape-requires
+shape-requires c κs = search needs
+
+bad-count-requires : tie.Need-bad-count-requires
+bad-count-requires c κs = search needs
+
+refuse-if-requires : tie.Need-refuse-if-requires
+refuse-if-requires c κs = search needs
+
+refuse-if-requires-2 : tie.Need-refuse-if-requires-2
+refuse-if-requires-2 c κs = search needs
+
+refuse-if-requires-3 : tie.Need-refuse-if-requires-3
+refuse-if-requires-3 c κs = search needs
+
+codes-requires : tie.Need-codes-requires
+codes-requires c κs = search needs
+
+some-unsurveyed-requires : tie.Need-some-unsurveyed-requires
+some-unsurveyed-requires c κs = search needs
+
+refuse-if-requires-4 : tie.Need-refuse-if-requires-4
+refuse-if-requires-4 c κs = search needs
+
+line-of-requires : tie.Need-line-of-requires
+line-of-requires c κs = search needs
+
+refuse-if-requires-5 : tie.Need-refuse-if-requires-5
+refuse-if-requires-5 c κs = search needs
+
+most-requires : tie.Need-most-requires
+most-requires c κs = search needs
+
+some-above-requires : tie.Need-some-above-requires
+some-above-requires c κs = search needs
+
+refuse-if-requires-6 : tie.Need-refuse-if-requires-6
+refuse-if-requires-6 c κs = search needs
+
+then-requires : tie.Need-then-requires
+then-requires c κs = search needs
+
+then-requires-2 : tie.Need-then-requires-2
+then-requires-2 c κs = search needs
+
+then-requires-3 : tie.Need-then-requires-3
+then-requires-3 c κs = search needs
+
+then-requires-4 : tie.Need-then-requires-4
+then-requires-4 c κs = search needs
+
+then-requires-5 : tie.Need-then-requires-5
+then-requires-5 c κs = search needs
+
+then-requires-6 : tie.Need-then-requires-6
+then-requires-6 c κs = search needs
+
+then-requires-7 : tie.Need-then-requires-7
+then-requires-7 c κs = search needs
+
+returns : tie.Need-returns
+returns c =
+    let seven = c .before .before .before .before .before .before .before in
+    let twelve = seven .before .before .before .before .before in
+    let fourteen = twelve .before .before in
+    let sized = fourteen .before .before .before .before .before .before in
+    let s = sized .before .before .before in
+    let count = fourteen .before .before .before .refuse-if .ensures ∙ ap (refuseIf 3 0) (fourteen .before .before .before .before .bad-count .ensures) in
+    let masked = fourteen .before .before .refuse-if2 .ensures ∙ ap (λ (n : ℕ). refuseIf 4 0 (otherThan n (length (s .args .mask .now)))) (sized .sites .ensures .0) in
+    let summed = fourteen .before .refuse-if3 .ensures ∙ ap (λ (n : ℕ). refuseIf 4 0 (otherThan n (length (s .args .sums .now)))) (sized .sites .ensures .0) in
+    let unsurveyed = twelve .refuse-if4 .ensures ∙ ap (refuseIf 8 0) (twelve .before .some-unsurveyed .ensures) in
+    let small = seven .before .before .before .refuse-if5 .ensures ∙ ap (λ (n : ℕ). refuseIf 9 0 (ltb n 12)) (seven .before .before .before .before .line-of .ensures) in
+    let impossible = seven .refuse-if6 .ensures ∙ ap (refuseIf 11 0) (seven .before .some-above .ensures) in
+    c .then7 .ensures
+    ∙ ap₂ _⨟_ (fourteen .before .before .before .before .before .shape .ensures) (c .before .then6 .ensures
+    ∙ ap₂ _⨟_ count (c .before .before .then5 .ensures
+    ∙ ap₂ _⨟_ masked (c .before .before .before .then4 .ensures
+    ∙ ap₂ _⨟_ summed (c .before .before .before .before .then3 .ensures
+    ∙ ap₂ _⨟_ (fourteen .codes .ensures) (c .before .before .before .before .before .then2 .ensures
+    ∙ ap₂ _⨟_ unsurveyed (c .before .before .before .before .before .before .then .ensures ∙ ap₂ _⨟_ small impossible))))))
+    ∙ judged (s .args .vertical) _ _ _ _ (s .args .mask .now) (s .args .sums .now) _ (seven .before .before .most .ensures)
+
+pub judge-spec : {M : Type 1} → statement M
+judge-spec =
+    tie.close
+    (tie.spec
+    sites-requires
+    shape-requires
+    bad-count-requires
+    refuse-if-requires
+    refuse-if-requires-2
+    refuse-if-requires-3
+    codes-requires
+    some-unsurveyed-requires
+    refuse-if-requires-4
+    line-of-requires
+    refuse-if-requires-5
+    most-requires
+    some-above-requires
+    refuse-if-requires-6
+    then-requires
+    then-requires-2
+    then-requires-3
+    then-requires-4
+    then-requires-5
+    then-requires-6
+    then-requires-7
+    returns)

@@ -1,0 +1,4 @@
+pub mod Lines
+pub mod Figures
+pub mod Pattern
+pub mod Walk
