@@ -1,0 +1,123 @@
+-- What is promised of `find_defects`, for any inputs.
+use Prim.Native.Nat.{ℕ, _*_, _<_}
+use mathlib.Core.Bool.{Bool}
+use mathlib.Core.List.{List, [], _∷_}
+use mathlib.Core.Path.{_≡_, refl, sym, ap, _∙_}
+use native.Mathlib.Omega.{arith}
+use lib.Dec.{ltb}
+use lib.ListN.{length, getD}
+use Rattle.laws.specs.Table.{tabulate}
+use Rattle.laws.proofs.Sums.{sum-zero}
+use Rattle.laws.proofs.Tables.{getD-tabulate}
+use Rattle.window.specs.Shape.{badSides, badScale, sitesOf}
+use Rattle.window.specs.View.{badCode, above, seenAt, seen}
+use Rattle.window.specs.Judge.{otherThan}
+use Rattle.window.specs.declared.Verdict.the-variants as verdict
+use Rattle.window.proofs.Sides.{sides}
+use Rattle.window.proofs.Verdicts.{Tabled, Refuses, test, testFirst, refuses}
+use Rattle.window.proofs.Views.{Agree, same-view, seen-out}
+use Rattle.sites.specs.Find.{defaultThreshold, usedThreshold, foundAt, markedAt, foundCount, findVerdict, findAnswer, findPaper, findMask}
+use Rattle.sites.specs.declared.Defects.{Defects}
+use Rattle.sites.specs.declared.Defects.the-variants.{Found}
+use Rattle.sites.proofs.Finds.{farAt, same-found, same-marked}
+use Rattle.sites.proofs.Accepts.{find-table, find-accepted, find-clear}
+use Rattle.sites.proofs.Turns.{OnlyTurned, turnedCount, tied, only-turned, kept, count-tied}
+use Rattle.sites.proofs.Flips.{flip, flipped, flip-count, flip-table, code-flip, seen-flip, ones-flip, view-flip, accepted-flip}
+
+module _ (w h full t : ℕ) (mask frame out : List ℕ) where
+  -- only: no second answer and no second final mask meets the promise
+  pub only : (a b : Defects) (left kept : List ℕ)
+      → (a ≡ findAnswer w h full t mask frame (length out)) × (left ≡ findMask w h full t mask frame out)
+      → (b ≡ findAnswer w h full t mask frame (length out)) × (kept ≡ findMask w h full t mask frame out)
+      → (a ≡ b) × (left ≡ kept)
+  only a b left kept p q = (p .0 ∙ sym (q .0), p .1 ∙ sym (q .1))
+
+  -- blind: what the frame holds at sites that are not surveyed changes neither the answer nor the mask
+  pub blind : (other : List ℕ) → Agree mask frame other
+      → (findAnswer w h full t mask frame (length out) ≡ findAnswer w h full t mask other (length out))
+      × ((findPaper w h full t mask frame (length out) ≡ findPaper w h full t mask other (length out))
+      × (findMask w h full t mask frame out ≡ findMask w h full t mask other out))
+  unfolding findAnswer findPaper findMask findVerdict
+  blind other a = rw (a .long, same-view a) (refl, (refl, refl))
+
+  -- given: each refusal exactly as document 01 tables it, in that order
+  pub given : Tabled (findVerdict w h full t mask frame (length out))
+      (test 1 0 (badSides w h)
+      ∷ test 2 0 (badScale full)
+      ∷ test 3 0 (ltb 4095 t)
+      ∷ test 4 0 (otherThan (sitesOf w h) (length mask))
+      ∷ test 4 0 (otherThan (sitesOf w h) (length frame))
+      ∷ test 4 0 (otherThan (sitesOf w h) (length out))
+      ∷ testFirst 5 (sitesOf w h) (badCode mask)
+      ∷ testFirst 6 (sitesOf w h) (above full (seen mask frame))
+      ∷ [])
+  given = find-table w h full t mask frame (length out)
+
+  -- refused: where the number is not 0 the count is 0 and the mask is as it was, and where it is 0 so is the place
+  pub refused : Refuses (findPaper w h full t mask frame (length out) .number) (findPaper w h full t mask frame (length out) .place)
+      ((findPaper w h full t mask frame (length out) .count ≡ 0) × (findMask w h full t mask frame out ≡ out))
+  unfolding findPaper findMask
+  refused = refuses (findVerdict w h full t mask frame (length out)) given refl (λ r e. rw e (refl, refl))
+
+  -- threshold 0 is the default
+  pub zero-is-default : (findAnswer w h full 0 mask frame (length out) ≡ findAnswer w h full defaultThreshold mask frame (length out))
+      × (findMask w h full 0 mask frame out ≡ findMask w h full defaultThreshold mask frame out)
+  unfolding findAnswer findMask findVerdict usedThreshold
+  zero-is-default = (refl, refl)
+
+-- of accepted calls
+module _ (w h full t : ℕ) (mask frame out : List ℕ) (accepted : findVerdict w h full t mask frame (length out) ≡ verdict.Clear) where
+  written : findMask w h full t mask frame out ≡ tabulate (sitesOf w h) (markedAt w h (usedThreshold t) mask (seen mask frame))
+  unfolding findMask
+  written = rw accepted
+
+  counts : findPaper w h full t mask frame (length out) .count ≡ foundCount w h (usedThreshold t) mask (seen mask frame)
+  unfolding findPaper
+  counts = rw accepted
+
+  code-after : (i : ℕ) → i < sitesOf w h → getD (findMask w h full t mask frame out) i 0 ≡ markedAt w h (usedThreshold t) mask (seen mask frame) i
+  code-after i l = rw written (getD-tabulate (sitesOf w h) (markedAt w h (usedThreshold t) mask (seen mask frame)) i l)
+
+  -- the count is the number of sites that were 0 and are 2
+  pub count-is-turned : findPaper w h full t mask frame (length out) .count ≡ turnedCount (sitesOf w h) 0 2 mask (findMask w h full t mask frame out)
+  unfolding foundCount foundAt markedAt seenAt
+  count-is-turned =
+      rw (counts, written)
+      (count-tied (sitesOf w h) 0 2 mask _ _
+      (λ i. tied 0 2 (getD mask i 0) (farAt w h (usedThreshold t) mask (seen mask frame) i) (λ e. omega arith)))
+
+  -- nothing but 0 to 2 is changed
+  pub only-found : (i : ℕ) → i < sitesOf w h → OnlyTurned 0 2 (getD mask i 0) (getD (findMask w h full t mask frame out) i 0)
+  unfolding foundAt markedAt seenAt
+  only-found i l = rw (code-after i l) (only-turned 0 2 (getD mask i 0) (farAt w h (usedThreshold t) mask (seen mask frame) i))
+
+  -- a gap stays a gap
+  pub gap-stays : (i : ℕ) → i < sitesOf w h → getD mask i 0 ≡ 1 → getD (findMask w h full t mask frame out) i 0 ≡ 1
+  unfolding foundAt markedAt seenAt
+  gap-stays i l gap = code-after i l ∙ kept 0 2 (getD mask i 0) (farAt w h (usedThreshold t) mask (seen mask frame) i) (λ e. omega arith) ∙ gap
+
+  -- no surveyed site gives the count 0
+  pub none-surveyed : ((i : ℕ) → i < sitesOf w h → getD mask i 0 ≡ 0 → ⊥) → findPaper w h full t mask frame (length out) .count ≡ 0
+  unfolding foundCount foundAt
+  none-surveyed none = counts ∙ sum-zero (sitesOf w h) _ (λ i l. seen-out (getD mask i 0) _ (none i l))
+
+  -- flipping the window top-bottom, left-right, or both flips the mask that is written, and keeps the count
+  pub flips : (down across : Bool)
+      → (findAnswer w h full t (flipped down across w h mask) (flipped down across w h frame) (length out) ≡ findAnswer w h full t mask frame (length out))
+      × (findMask w h full t (flipped down across w h mask) (flipped down across w h frame) out ≡ flipped down across w h (findMask w h full t mask frame out))
+  unfolding findAnswer findMask foundCount
+  flips down across =
+      let a = find-accepted w h full t mask frame (length out) accepted in
+      let legal = sides w h (a .0 .legal) in
+      let m = flipped down across w h mask in
+      let f = flipped down across w h frame in
+      let also = find-clear w h full t m f (length out) (accepted-flip down across w h legal full mask frame (a .0)) (a .1) (a .2) in
+      let found : (i : ℕ) → i < h * w → foundAt w h (usedThreshold t) m (seen m f) i ≡ foundAt w h (usedThreshold t) mask (seen mask frame) (flip down across w h i) =
+      λ i l. same-found w h (usedThreshold t) m mask (seen m f) (seen mask frame) i (flip down across w h i)
+      (code-flip down across w h legal mask frame i l) (seen-flip down across w h legal mask frame i l)
+      (ones-flip down across w h legal mask frame 15 i l) (view-flip down across w h legal mask frame 15 i l) in
+      let marks : (i : ℕ) → i < h * w → markedAt w h (usedThreshold t) m (seen m f) i ≡ markedAt w h (usedThreshold t) mask (seen mask frame) (flip down across w h i) =
+      λ i l. same-marked w h (usedThreshold t) m mask (seen m f) (seen mask frame) i (flip down across w h i)
+      (code-flip down across w h legal mask frame i l) (found i l) in
+      rw (also, accepted)
+      (ap Found (flip-count down across w h legal _ _ found), flip-table down across w h legal _ _ marks)

@@ -1,0 +1,23 @@
+-- `is_far` is right because both products are whole numbers below 2^64.
+use native.Mathlib.Omega.{arith}
+use borrow.Author.Needs.{needs}
+use Rattle.laws.proofs.Cases.{times-le}
+use Rattle.sites.specs.Find.{far}
+use Rattle.sites.proofs.is_far.Statement.{statement}
+use Rattle.sites.proofs.is_far.Tie as tie
+
+mul-result : tie.Need-mul-result
+mul-result c = omega (arith, times-le (c .args .t) (c .args .count) 4095 4096 (c .pre .0) (c .pre .1))
+
+mul-gap : tie.Need-mul-gap
+mul-gap c = omega (arith, times-le (c .args .sample) (c .args .count) 65535 4096 (omega arith) (c .pre .1))
+
+gap-requires : tie.Need-gap-requires
+gap-requires c κs = search needs
+
+returns : tie.Need-returns
+unfolding far
+returns c = rw (← c .gap .ensures)
+
+pub is-far-spec : {M : Type 1} → statement M
+is-far-spec = tie.close (tie.spec mul-result mul-gap gap-requires returns)

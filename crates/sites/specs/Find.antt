@@ -1,0 +1,83 @@
+-- Document 01, "Defective sites": what `find_defects` answers and leaves in the lent mask.
+use Prim.Native.Nat.{ℕ, _*_}
+use mathlib.Core.Bool.{Bool, cond}
+use mathlib.Core.List.{List}
+use lib.Dec.{eqb, ltb, leb}
+use lib.ListN.{length, getD}
+use Rattle.laws.specs.Signed.{apart}
+use Rattle.laws.specs.Sum.{sumTo}
+use Rattle.laws.specs.Table.{tabulate}
+use Rattle.window.specs.Shape.{sitesOf}
+use Rattle.window.specs.View.{seenAt, seen, one}
+use Rattle.window.specs.Verdict.{_⨟_, refuseIf, numberOf, placeOf, ifClear}
+use Rattle.window.specs.Judge.{shapeOf, otherThan, codesOf, samplesOf}
+use Rattle.window.specs.declared.Refusal.{Refusal}
+use Rattle.window.specs.declared.Verdict.{Verdict}
+use Rattle.window.specs.declared.Verdict.the-variants as verdict
+use Rattle.sites.specs.Near.{nearSum, Counted, counted}
+use Rattle.sites.specs.declared.Defects.{Defects}
+use Rattle.sites.specs.declared.Defects.the-variants.{Found, Refused}
+
+-- "0 stands for the default, 28"
+abbrev pub defaultThreshold : ℕ
+defaultThreshold = 28
+
+unfoldable pub usedThreshold : ℕ → ℕ
+usedThreshold t = cond (eqb t 0) defaultThreshold t
+
+-- |p × c − S| ≥ t × c
+unfoldable pub far : ℕ → ℕ → ℕ → ℕ → Bool
+far t p c s = leb (t * c) (apart (p * c) s)
+
+-- 1 at a surveyed site that is far from the 31 × 31 sites of its plane around it, 0 at any other
+unfoldable pub foundAt : ℕ → ℕ → ℕ → List ℕ → (ℕ → ℕ) → ℕ → ℕ
+unfolding far
+foundAt w h t mask view i =
+    seenAt (getD mask i 0) (cond (far t (view i) (nearSum 15 w h (one mask) i) (nearSum 15 w h view i)) 1 0)
+
+-- "newly found become 2, all others are copied"
+abbrev pub marked : ℕ → ℕ → ℕ
+marked code found = cond (eqb found 0) code 2
+
+unfoldable pub markedAt : ℕ → ℕ → ℕ → List ℕ → (ℕ → ℕ) → ℕ → ℕ
+markedAt w h t mask view i = marked (getD mask i 0) (foundAt w h t mask view i)
+
+-- the count of newly found sites
+unfoldable pub foundCount : ℕ → ℕ → ℕ → List ℕ → (ℕ → ℕ) → ℕ
+foundCount w h t mask view = sumTo (sitesOf w h) (foundAt w h t mask view)
+
+-- the refusals in their order, of the mask, the frame and the length of the mask that is written
+unfoldable pub findVerdict : ℕ → ℕ → ℕ → ℕ → List ℕ → List ℕ → ℕ → Verdict
+findVerdict w h full t mask frame out =
+    shapeOf w h full
+    ⨟ refuseIf 3 0 (ltb 4095 t)
+    ⨟ refuseIf 4 0 (otherThan (sitesOf w h) (length mask))
+    ⨟ refuseIf 4 0 (otherThan (sitesOf w h) (length frame))
+    ⨟ refuseIf 4 0 (otherThan (sitesOf w h) out)
+    ⨟ codesOf (sitesOf w h) mask
+    ⨟ samplesOf (sitesOf w h) full (seen mask frame)
+
+abbrev pub foundOr : Verdict → ℕ → Defects
+foundOr verdict.Clear count = Found count
+foundOr (verdict.Refused r) count = Refused r
+
+unfoldable pub findAnswer : ℕ → ℕ → ℕ → ℕ → List ℕ → List ℕ → ℕ → Defects
+findAnswer w h full t mask frame out = foundOr (findVerdict w h full t mask frame out) (foundCount w h (usedThreshold t) mask (seen mask frame))
+
+-- the paper's numbers of an answer
+abbrev pub foundPaperOf : Defects → Counted
+foundPaperOf (Found count) = counted 0 0 count
+foundPaperOf (Refused r) = counted (r .number) (r .place) 0
+
+-- the paper's numbers for all inputs
+unfoldable pub findPaper : ℕ → ℕ → ℕ → ℕ → List ℕ → List ℕ → ℕ → Counted
+findPaper w h full t mask frame out =
+    counted
+    (numberOf (findVerdict w h full t mask frame out))
+    (placeOf (findVerdict w h full t mask frame out))
+    (ifClear (findVerdict w h full t mask frame out) (foundCount w h (usedThreshold t) mask (seen mask frame)) 0)
+
+-- the output mask afterwards, or as it was
+unfoldable pub findMask : ℕ → ℕ → ℕ → ℕ → List ℕ → List ℕ → List ℕ → List ℕ
+findMask w h full t mask frame out =
+    ifClear (findVerdict w h full t mask frame (length out)) (tabulate (sitesOf w h) (markedAt w h (usedThreshold t) mask (seen mask frame))) out

@@ -1,0 +1,337 @@
+// Defective sites and their repair: document 01, "Defective sites" and "Repair". Both read the mask as it came in and write another.
+ghost use mathlib.Core.Path.{_≡_};
+ghost use mathlib.Core.Bool.{false};
+ghost use Prim.Native.Nat.{_-_, _*_, _<_, _≤_};
+ghost use lib.ListN.{length};
+ghost use Rattle.laws.specs.Signed.{apart};
+ghost use Rattle.laws.specs.Table.{tabulate};
+ghost use Rattle.window.specs.Shape.{badSides, sitesOf};
+ghost use Rattle.window.specs.View.{seen, one};
+ghost use Rattle.sites.specs.Near.{around, nearSum};
+ghost use Rattle.sites.specs.Find.{usedThreshold, far, foundAt, marked, markedAt, foundCount, findVerdict, findAnswer, foundPaperOf, findPaper, findMask};
+ghost use Rattle.sites.specs.Repair.{meanOf, filledAt, sampleAfter, codeAfter, filledCount, repairVerdict, repairAnswer, filledPaperOf, repairPaper, repairFrame, repairMask};
+use window::PlaneBox;
+use window::Refusal;
+use window::Sums;
+use window::Verdict;
+
+// Document 01: "0 stands for the default, 28".
+const DEFAULT_THRESHOLD: u64 = 28;
+
+pub enum Defects {
+    Found(u64),
+    Refused(Refusal),
+}
+
+pub enum Repaired {
+    Filled(u64),
+    Refused(Refusal),
+}
+
+fn less(n: usize, k: usize) -> usize
+    ensures { λ r. ⌜ r ≡ n - k ⌝ }
+{
+    if n < k { 0 } else { n - k }
+}
+
+// The box of a site's plane at most `reach` rows and columns from it.
+fn box_around(reach: usize, width: usize, i: usize) -> PlaneBox
+    requires { ⌜ (0 < width) × (i < 16384) × (reach ≤ 15) ⌝ }
+    ensures { λ r. ⌜ r ≡ around reach width i ⌝ }
+{
+    let row = i / width / 2;
+    let column = i % width / 2;
+    PlaneBox {
+        top: less(row, reach),
+        bottom: row + reach + 1,
+        left: less(column, reach),
+        right: column + reach + 1,
+    }
+}
+
+// What is seen there.
+fn near_sums(
+    reach: usize,
+    width: usize,
+    height: usize,
+    i: usize,
+    mask: &[u8],
+    frame: &[u16],
+) -> Sums
+    requires { ⌜ (badSides width height ≡ false) × (i < sitesOf width height) × (reach ≤ 15) ⌝ }
+    requires { ⌜ (length (now mask) ≡ sitesOf width height) × (length (now frame) ≡ sitesOf width height) ⌝ }
+    ensures { λ r. ⌜ (r .count ≡ nearSum reach width height (one (now (mask .entry))) i) × (r .total ≡ nearSum reach width height (seen (now (mask .entry)) (now (frame .entry))) i) ⌝ }
+    ensures { λ r. ⌜ (r .count ≤ 4096) × (r .total ≤ 65535 * r .count) ⌝ }
+{
+    let plane = 2 * (i / width % 2) + i % width % 2;
+    window::box_sums(
+        width,
+        height,
+        plane,
+        box_around(reach, width, i),
+        mask,
+        frame,
+    )
+}
+
+fn used_threshold(threshold: u64) -> u64
+    ensures { λ r. ⌜ r ≡ usedThreshold threshold ⌝ }
+{
+    if threshold == 0 {
+        DEFAULT_THRESHOLD
+    } else {
+        threshold
+    }
+}
+
+fn gap(a: u64, b: u64) -> u64
+    ensures { λ r. ⌜ r ≡ apart a b ⌝ }
+{
+    if a < b { b - a } else { a - b }
+}
+
+// A sample against the mean of `count` samples, by whole products.
+fn is_far(t: u64, sample: u16, count: u64, total: u64) -> bool
+    requires { ⌜ (t ≤ 4095) × (count ≤ 4096) ⌝ }
+    ensures { λ r. ⌜ r ≡ far t sample count total ⌝ }
+{
+    t * count <= gap(sample as u64 * count, total)
+}
+
+// 1 where a surveyed site is newly found, else 0.
+fn found_at(width: usize, height: usize, t: u64, i: usize, mask: &[u8], frame: &[u16]) -> u64
+    requires { ⌜ (badSides width height ≡ false) × (i < sitesOf width height) × (t ≤ 4095) ⌝ }
+    requires { ⌜ (length (now mask) ≡ sitesOf width height) × (length (now frame) ≡ sitesOf width height) ⌝ }
+    ensures { λ r. ⌜ (r ≡ foundAt width height t (now (mask .entry)) (seen (now (mask .entry)) (now (frame .entry))) i) × (r ≤ 1) ⌝ }
+{
+    if mask[i] != 0 {
+        return 0;
+    }
+    let sums = near_sums(15, width, height, i, mask, frame);
+    if is_far(t, frame[i], sums.count, sums.total) {
+        1
+    } else {
+        0
+    }
+}
+
+fn code_of(code: u8, found: u64) -> u8
+    ensures { λ r. ⌜ r ≡ marked code found ⌝ }
+{
+    if found == 0 { code } else { 2 }
+}
+
+// Every site's code, and how many sites are newly found.
+fn mark(width: usize, height: usize, t: u64, mask: &[u8], frame: &[u16], out: &mut [u8]) -> u64
+    requires { ⌜ (badSides width height ≡ false) × (t ≤ 4095) ⌝ }
+    requires { ⌜ (length (now mask) ≡ sitesOf width height) × (length (now frame) ≡ sitesOf width height) × (length (now out) ≡ sitesOf width height) ⌝ }
+    ensures { λ r. ⌜ r ≡ foundCount width height t (now (mask .entry)) (seen (now (mask .entry)) (now (frame .entry))) ⌝ }
+    ensures { λ r. ⌜ now (out .exit) ≡ tabulate (sitesOf width height) (markedAt width height t (now (mask .entry)) (seen (now (mask .entry)) (now (frame .entry)))) ⌝ }
+{
+    let mut found = 0;
+    for i in 0..out.len() {
+        let f = found_at(width, height, t, i, mask, frame);
+        out[i] = code_of(mask[i], f);
+        found += f;
+    }
+    found
+}
+
+// Refusals 1 to 6 of a search, of the length of the mask that is written.
+fn judge_find(
+    width: usize,
+    height: usize,
+    full_scale: u64,
+    threshold: u64,
+    mask: &[u8],
+    frame: &[u16],
+    out: usize,
+) -> Verdict
+    ensures { λ r. ⌜ r ≡ findVerdict width height «full_scale» threshold (now (mask .entry)) (now (frame .entry)) out ⌝ }
+{
+    let n = window::sites(width, height);
+    let shape = window::shape(width, height, full_scale);
+    let range = window::refuse_if(3, 0, 4095 < threshold);
+    let masked = window::refuse_if(4, 0, mask.len() != n);
+    let framed = window::refuse_if(4, 0, frame.len() != n);
+    let lent = window::refuse_if(4, 0, out != n);
+    let codes = window::codes(width, height, mask);
+    let samples = window::samples(width, height, full_scale, mask, frame);
+    window::then(
+        shape,
+        window::then(
+            range,
+            window::then(
+                masked,
+                window::then(framed, window::then(lent, window::then(codes, samples))),
+            ),
+        ),
+    )
+}
+
+pub fn find_defects(
+    width: usize,
+    height: usize,
+    full_scale: u64,
+    threshold: u64,
+    mask: &[u8],
+    frame: &[u16],
+    out_mask: &mut [u8],
+) -> Defects
+    ensures answer { λ r. ⌜ r ≡ findAnswer width height «full_scale» threshold (now (mask .entry)) (now (frame .entry)) (length (now («out_mask» .entry))) ⌝ }
+    ensures paper { λ r. ⌜ foundPaperOf r ≡ findPaper width height «full_scale» threshold (now (mask .entry)) (now (frame .entry)) (length (now («out_mask» .entry))) ⌝ }
+    ensures buffer { λ r. ⌜ now («out_mask» .exit) ≡ findMask width height «full_scale» threshold (now (mask .entry)) (now (frame .entry)) (now («out_mask» .entry)) ⌝ }
+{
+    match judge_find(
+        width,
+        height,
+        full_scale,
+        threshold,
+        mask,
+        frame,
+        out_mask.len(),
+    ) {
+        Verdict::Refused(refusal) => Defects::Refused(refusal),
+        Verdict::Clear => Defects::Found(mark(
+            width,
+            height,
+            used_threshold(threshold),
+            mask,
+            frame,
+            out_mask,
+        )),
+    }
+}
+
+// The mean of `count` samples, half rounded up.
+fn mean(total: u64, count: u64) -> u16
+    requires { ⌜ (0 < count) × (count ≤ 4096) × (total ≤ 65535 * count) ⌝ }
+    ensures { λ r. ⌜ r ≡ meanOf total count ⌝ }
+{
+    ((2 * total + count) / (2 * count)) as u16
+}
+
+// What becomes of a site: its sample, its code, and 1 where it is filled.
+struct Site {
+    sample: u16,
+    code: u8,
+    filled: u64,
+}
+
+fn fill_at(width: usize, height: usize, i: usize, mask: &[u8], frame: &[u16]) -> Site
+    requires { ⌜ (badSides width height ≡ false) × (i < sitesOf width height) ⌝ }
+    requires { ⌜ (length (now mask) ≡ sitesOf width height) × (length (now frame) ≡ sitesOf width height) ⌝ }
+    ensures { λ r. ⌜ (r .sample ≡ sampleAfter width height (now (mask .entry)) (seen (now (mask .entry)) (now (frame .entry))) (now (frame .entry)) i) × (r .code ≡ codeAfter width height (now (mask .entry)) i) ⌝ }
+    ensures { λ r. ⌜ (r .filled ≡ filledAt width height (now (mask .entry)) i) × (r .filled ≤ 1) ⌝ }
+{
+    let sample = frame[i];
+    let code = mask[i];
+    if code != 2 {
+        return Site {
+            sample,
+            code,
+            filled: 0,
+        };
+    }
+    let sums = near_sums(1, width, height, i, mask, frame);
+    if sums.count == 0 {
+        return Site {
+            sample,
+            code,
+            filled: 0,
+        };
+    }
+    Site {
+        sample: mean(sums.total, sums.count),
+        code: 3,
+        filled: 1,
+    }
+}
+
+// Every site's sample and code, and how many sites are filled.
+fn fill(
+    width: usize,
+    height: usize,
+    mask: &[u8],
+    frame: &[u16],
+    out_frame: &mut [u16],
+    out_mask: &mut [u8],
+) -> u64
+    requires { ⌜ (badSides width height ≡ false) × (length (now mask) ≡ sitesOf width height) × (length (now frame) ≡ sitesOf width height) ⌝ }
+    requires { ⌜ (length (now «out_frame») ≡ sitesOf width height) × (length (now «out_mask») ≡ sitesOf width height) ⌝ }
+    ensures { λ r. ⌜ r ≡ filledCount width height (now (mask .entry)) ⌝ }
+    ensures { λ r. ⌜ now («out_frame» .exit) ≡ tabulate (sitesOf width height) (sampleAfter width height (now (mask .entry)) (seen (now (mask .entry)) (now (frame .entry))) (now (frame .entry))) ⌝ }
+    ensures { λ r. ⌜ now («out_mask» .exit) ≡ tabulate (sitesOf width height) (codeAfter width height (now (mask .entry))) ⌝ }
+{
+    let mut filled = 0;
+    for i in 0..out_frame.len() {
+        let site = fill_at(width, height, i, mask, frame);
+        out_frame[i] = site.sample;
+        out_mask[i] = site.code;
+        filled += site.filled;
+    }
+    filled
+}
+
+// Refusals 1 to 6 of a repair, of the lengths of the buffers that are written.
+fn judge_repair(
+    width: usize,
+    height: usize,
+    full_scale: u64,
+    mask: &[u8],
+    frame: &[u16],
+    out_frame: usize,
+    out_mask: usize,
+) -> Verdict
+    ensures { λ r. ⌜ r ≡ repairVerdict width height «full_scale» (now (mask .entry)) (now (frame .entry)) «out_frame» «out_mask» ⌝ }
+{
+    let n = window::sites(width, height);
+    let shape = window::shape(width, height, full_scale);
+    let masked = window::refuse_if(4, 0, mask.len() != n);
+    let framed = window::refuse_if(4, 0, frame.len() != n);
+    let lent_frame = window::refuse_if(4, 0, out_frame != n);
+    let lent_mask = window::refuse_if(4, 0, out_mask != n);
+    let codes = window::codes(width, height, mask);
+    let samples = window::samples(width, height, full_scale, mask, frame);
+    window::then(
+        shape,
+        window::then(
+            masked,
+            window::then(
+                framed,
+                window::then(
+                    lent_frame,
+                    window::then(lent_mask, window::then(codes, samples)),
+                ),
+            ),
+        ),
+    )
+}
+
+pub fn repair(
+    width: usize,
+    height: usize,
+    full_scale: u64,
+    mask: &[u8],
+    frame: &[u16],
+    out_frame: &mut [u16],
+    out_mask: &mut [u8],
+) -> Repaired
+    ensures answer { λ r. ⌜ r ≡ repairAnswer width height «full_scale» (now (mask .entry)) (now (frame .entry)) (length (now («out_frame» .entry))) (length (now («out_mask» .entry))) ⌝ }
+    ensures paper { λ r. ⌜ filledPaperOf r ≡ repairPaper width height «full_scale» (now (mask .entry)) (now (frame .entry)) (length (now («out_frame» .entry))) (length (now («out_mask» .entry))) ⌝ }
+    ensures frame { λ r. ⌜ now («out_frame» .exit) ≡ repairFrame width height «full_scale» (now (mask .entry)) (now (frame .entry)) (now («out_frame» .entry)) (length (now («out_mask» .entry))) ⌝ }
+    ensures mask { λ r. ⌜ now («out_mask» .exit) ≡ repairMask width height «full_scale» (now (mask .entry)) (now (frame .entry)) (length (now («out_frame» .entry))) (now («out_mask» .entry)) ⌝ }
+{
+    match judge_repair(
+        width,
+        height,
+        full_scale,
+        mask,
+        frame,
+        out_frame.len(),
+        out_mask.len(),
+    ) {
+        Verdict::Refused(refusal) => Repaired::Refused(refusal),
+        Verdict::Clear => Repaired::Filled(fill(width, height, mask, frame, out_frame, out_mask)),
+    }
+}
