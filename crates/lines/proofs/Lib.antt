@@ -1,0 +1,5 @@
+pub mod Pools
+pub mod Marking
+pub mod Shifts
+pub mod Turns
+pub mod Promises

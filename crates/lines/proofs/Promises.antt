@@ -1,0 +1,133 @@
+-- What is promised of `defective_rows` and `defective_columns`, for any sides, full scale, mask, frame and marks. `lines` is `rows` or `columns`.
+use Prim.Native.Nat.{ℕ, _+_, _*_, _/_, _%_, _<_}
+use mathlib.Core.Bool.{true}
+use mathlib.Core.List.{List, []}
+use mathlib.Core.Logic.{_⊎_}
+use mathlib.Core.Path.{_≡_, refl, sym, ap, _∙_}
+use native.Mathlib.Nat.{mod-lt}
+use native.Mathlib.Omega.{arith}
+use lib.Arith.{digits-lt}
+use lib.ListN.{length, getD}
+use Rattle.laws.specs.Table.{tabulate}
+use Rattle.laws.proofs.Tables.{getD-tabulate, tabulate-ext}
+use Rattle.window.specs.View.{surveyed, seen, one}
+use Rattle.window.specs.Plane.{siteAt}
+use Rattle.window.specs.declared.Verdict.the-variants as verdict
+use Rattle.window.proofs.Planes.{site-in}
+use Rattle.window.proofs.Verdicts.{Tabled, Refuses, refuses}
+use Rattle.window.proofs.Views.{Agree, same-view}
+use Rattle.lines.specs.Lines.{Lines, rows, columns, markOf, lineSum, markAt}
+use Rattle.lines.specs.Marks.{linesVerdict, linesAnswer, linesPaper, linesBuffer}
+use Rattle.lines.specs.declared.Marked.{Marked}
+use Rattle.lines.specs.declared.Marked.the-variants.{Done}
+use Rattle.lines.proofs.Pools.{mark-line}
+use Rattle.lines.proofs.Marking.{Accepted, tests, table, accepted, accepted-is, done-clear}
+use Rattle.lines.proofs.Shifts.{mark-shift, none-far, none-surveyed, zero-or-one, seen-shift, blank-line, line-shift}
+use Rattle.lines.proofs.Turns.{turned, turnedPlane, turned-mark, turned-accepted}
+
+module _ (lines : ℕ → ℕ → Lines) (w h full : ℕ) (mask frame marks : List ℕ) where
+  -- only: no second answer and no second final buffer meets the promise
+  pub only : (a b : Marked) (left kept : List ℕ)
+      → (a ≡ linesAnswer lines w h full mask frame (length marks)) × (left ≡ linesBuffer lines w h full mask frame marks)
+      → (b ≡ linesAnswer lines w h full mask frame (length marks)) × (kept ≡ linesBuffer lines w h full mask frame marks)
+      → (a ≡ b) × (left ≡ kept)
+  only a b left kept p q = (p .0 ∙ sym (q .0), p .1 ∙ sym (q .1))
+
+  -- given: 1, 2, 4, 5, 6 and 9 exactly as document 01 tables them, in that order (`tests` has the table)
+  pub given : Tabled (linesVerdict lines w h full mask frame (length marks)) (tests lines w h full mask frame (length marks))
+  given = table lines w h full mask frame (length marks)
+
+  -- refused: where the number is not 0 the marks are as they were, and where it is 0 so is the place
+  pub refused : Refuses (linesPaper lines w h full mask frame (length marks) .number) (linesPaper lines w h full mask frame (length marks) .place)
+      (linesBuffer lines w h full mask frame marks ≡ marks)
+  unfolding linesPaper linesBuffer
+  refused = refuses (linesVerdict lines w h full mask frame (length marks)) given refl (λ r e. rw e)
+
+  -- blind: what another frame holds at unsurveyed sites changes neither the answer nor any mark
+  pub blind : (other : List ℕ) → Agree mask frame other
+      → (linesAnswer lines w h full mask frame (length marks) ≡ linesAnswer lines w h full mask other (length marks))
+      × (linesBuffer lines w h full mask frame marks ≡ linesBuffer lines w h full mask other marks)
+  unfolding linesAnswer linesBuffer linesVerdict
+  blind other a = (rw (a .long, same-view a), rw (a .long, same-view a))
+
+  -- of an accepted call
+  module _ (done : linesAnswer lines w h full mask frame (length marks) ≡ Done) where
+    clear : linesVerdict lines w h full mask frame (length marks) ≡ verdict.Clear
+    clear = done-clear lines w h full mask frame (length marks) done
+
+    fits : Accepted lines w h full mask frame (length marks)
+    fits = accepted lines w h full mask frame (length marks) clear
+
+    written : linesBuffer lines w h full mask frame marks ≡ tabulate (length marks) (markAt (lines w h) w h (one mask) (seen mask frame))
+    written = sym (accepted-is lines w h full mask frame marks clear .1 .1)
+
+    at : (i : ℕ) → i < length marks → getD (linesBuffer lines w h full mask frame marks) i 0 ≡ markAt (lines w h) w h (one mask) (seen mask frame) i
+    at i l = ap (λ (b : List ℕ). getD b i 0) written ∙ getD-tabulate (length marks) _ i l
+
+    -- every mark is 0 or 1
+    pub binary : (i : ℕ) → i < length marks
+        → (getD (linesBuffer lines w h full mask frame marks) i 0 ≡ 0) ⊎ (getD (linesBuffer lines w h full mask frame marks) i 0 ≡ 1)
+    unfolding markAt
+    binary i l = rw (at i l) (zero-or-one _ _ _ _)
+
+    -- line l of a plane
+    module _ (plane l : ℕ) (few : plane < 4) (below : l < lines w h .count) where
+      inside : plane * lines w h .count + l < length marks
+      inside = omega (arith, digits-lt few below, fits .marked)
+
+      -- is marked by the counts and sums of its own plane's lines, in its plane's place
+      pub marked-by : getD (linesBuffer lines w h full mask frame marks) (plane * lines w h .count + l) 0
+          ≡ markOf (lines w h .count) (lineSum (lines w h) w h plane (one mask)) (lineSum (lines w h) w h plane (seen mask frame)) l
+      marked-by = at (plane * lines w h .count + l) inside ∙ mark-line (lines w h) w h _ _ plane l below
+
+      -- a line with no surveyed site is never marked
+      pub unsurveyed : lineSum (lines w h) w h plane (one mask) l ≡ 0
+          → getD (linesBuffer lines w h full mask frame marks) (plane * lines w h .count + l) 0 ≡ 0
+      unsurveyed e = marked-by ∙ none-surveyed _ l _ _ e
+
+      -- a plane of equal samples has no mark
+      pub equal : (v : ℕ)
+          → ((y x : ℕ) → y < h / 2 → x < w / 2 → surveyed (getD mask (siteAt w plane y x) 0) ≡ true → getD frame (siteAt w plane y x) 0 ≡ v)
+          → getD (linesBuffer lines w h full mask frame marks) (plane * lines w h .count + l) 0 ≡ 0
+      equal v same =
+          let n = lines w h .count in
+          let counts : ℕ → ℕ = lineSum (lines w h) w h plane (one mask) in
+          let totals : ℕ → ℕ = lineSum (lines w h) w h plane (seen mask frame) in
+          let grown = line-shift (lines w h) w h plane v 0 (one mask) (seen mask []) (seen mask frame)
+          (λ y x p q. seen-shift mask [] frame v 0 (siteAt w plane y x) (λ s. omega (arith, same y x p q s))) in
+          marked-by
+          ∙ sym (mark-shift n v 0 l (fits .nine) below counts (λ (m : ℕ). 0) totals (λ m b. omega (arith, grown m, blank-line (lines w h) w h plane mask m)))
+          ∙ none-far n l counts
+
+  -- adding one constant, up less down, to every surveyed sample, none leaving 0 to full scale, changes no mark
+  pub shifted : (other : List ℕ) (up down : ℕ)
+      → ((i : ℕ) → i < length mask → surveyed (getD mask i 0) ≡ true → getD other i 0 + down ≡ getD frame i 0 + up)
+      → linesAnswer lines w h full mask frame (length marks) ≡ Done → linesAnswer lines w h full mask other (length marks) ≡ Done
+      → linesBuffer lines w h full mask frame marks ≡ linesBuffer lines w h full mask other marks
+  unfolding markAt
+  shifted other up down shift p q =
+      let fit = fits p in
+      let n = lines w h .count in
+      let nine = fit .nine in
+      written p
+      ∙ tabulate-ext (length marks) _ _ (λ i l. mark-shift n up down (i % n) nine (mod-lt i (omega arith)) _ _ _
+      (λ m b. line-shift (lines w h) w h (i / n) up down (one mask) (seen mask frame) (seen mask other)
+      (λ y x low in-row. seen-shift mask frame other up down (siteAt w (i / n) y x)
+      (shift (siteAt w (i / n) y x) (omega (arith, site-in w h (i / n) y low x in-row, fit .masked, fit .legal .sites)))) m))
+      ∙ accepted-is lines w h full mask other marks (done-clear lines w h full mask other (length marks) q) .1 .1
+
+-- the mark of column l of plane (a,b) is the mark of row l of plane (b,a) of the turned window, which is accepted too
+pub turns : (w h full : ℕ) (mask frame marks : List ℕ) → linesAnswer columns w h full mask frame (length marks) ≡ Done
+    → (linesAnswer rows h w full (turned w h mask) (turned w h frame) (length marks) ≡ Done)
+    × ((plane l : ℕ) → plane < 4 → l < w / 2
+    → getD (linesBuffer columns w h full mask frame marks) (plane * (w / 2) + l) 0
+    ≡ getD (linesBuffer rows h w full (turned w h mask) (turned w h frame) marks) (turnedPlane plane * (w / 2) + l) 0)
+turns w h full mask frame marks done =
+    let over = sym (accepted-is rows h w full (turned w h mask) (turned w h frame) marks (turned-accepted w h full mask frame (length marks) (clear columns w h full mask frame marks done)) .0) in
+    let fit = fits columns w h full mask frame marks done in (
+      over,
+      λ plane l few below.
+          marked-by columns w h full mask frame marks done plane l few below
+          ∙ turned-mark w h (omega (arith, fit .legal .high .low)) mask frame plane l (fit .nine) below
+          ∙ sym (marked-by rows h w full (turned w h mask) (turned w h frame) marks over (turnedPlane plane) l (omega arith) below),
+    )
