@@ -1,0 +1,175 @@
+-- The verdict, what an accepted call has, and what the verdict makes of the answer.
+use Prim.Native.Nat.{ℕ, min, _*_, _/_, _≤_, _<_}
+use mathlib.Core.Bool.{false, _||_}
+use mathlib.Core.List.{List, [], _∷_}
+use mathlib.Core.Path.{_≡_, refl, _∙_}
+use native.Mathlib.Nat.{le-trans}
+use native.Mathlib.Omega.{arith}
+use lib.Dec.{eqb, ltb}
+use lib.ListN.{length}
+use borrow.Author.Tests.{ltb-false, eqb-false}
+use Rattle.laws.proofs.Cases.{neither, times-le}
+use Rattle.window.specs.Shape.{badSides, badScale, sitesOf}
+use Rattle.window.specs.View.{badCode, above, seen, one}
+use Rattle.window.specs.Verdict.{_⨟_, refuseIf, refuseFirst}
+use Rattle.window.specs.Judge.{shapeOf, otherThan, codesOf, samplesOf, walked}
+use Rattle.window.specs.Plane.{boxSums}
+use Rattle.window.specs.declared.Refusal.{Refusal}
+use Rattle.window.specs.declared.Sums.{Sums}
+use Rattle.window.specs.declared.Verdict.{Verdict}
+use Rattle.window.specs.declared.Verdict.the-variants as verdict
+use Rattle.window.proofs.Sides.{Sides, sides, scale}
+use Rattle.window.proofs.Verdicts.{Test, Tabled, test, testFirst, tabled, passed-head, passed-tail, then-same}
+use Rattle.window.proofs.Chains.{shape-then, shape-clear, same-length, in-range, measured, codes-whole, samples-whole}
+use Rattle.colour.specs.Bayer.{mosaicOf, centresOf}
+use Rattle.colour.specs.Centre.{centreOf, tooSmall, centreSums, someEmpty}
+use Rattle.colour.specs.Colour.{aboveBlack, notAbove, ratioOf, centresSeen, colourVerdict, answered, colourAnswer, paperOf, colourPaper}
+use Rattle.colour.specs.declared.Centres.{Centres}
+use Rattle.colour.specs.declared.Ratio.{Ratio}
+use Rattle.colour.specs.declared.Colour.the-variants.{OverGr, Refused}
+use Rattle.colour.proofs.Totals.{above-black}
+use Rattle.colour.proofs.Shown.{shown-whole, few, low}
+
+-- sums of a centre whose samples are within full scale, of which some are surveyed
+pub record Lit (full : ℕ) (shown : Sums) : Type 0 where
+  pub some : 0 < shown .count
+  pub few : shown .count ≤ 768
+  pub low : shown .total ≤ full * shown .count
+
+-- so a total is far inside an i64
+module _ {full : ℕ} {shown : Sums} (scale : full ≤ 4095) (lit : Lit full shown) where
+  pub top : shown .total ≤ 4095 * 768
+  top = le-trans (lit .low) (times-le full (shown .count) 4095 768 scale (lit .few))
+
+-- and a colour's centre can be set over that of Gr
+module _ {full black : ℕ} {colour gr : Sums} (scale : full ≤ 4095) (dark : black ≤ full) (x : Lit full colour) (g : Lit full gr)
+    (bright : black * gr .count < gr .total) where
+  pub fair : (y z : Sums) → y ≡ colour → z ≡ gr
+      → ((black ≤ 4095) × (y .count ≤ 768) × (y .total ≤ 4095 * 768) × (z .count ≤ 768) × (z .total ≤ 4095 * 768)) × (black * z .count < z .total)
+  fair y z p q = rw (p, q) ((omega arith, x .few, top scale x, g .few, top scale g), bright)
+
+-- 7 does not apply
+filled : (shown : Centres) → someEmpty shown ≡ false
+    → (0 < shown .r .count) × ((0 < shown .gr .count) × ((0 < shown .b .count) × (0 < shown .gb .count)))
+unfolding someEmpty
+filled shown e =
+    let r = neither (eqb (shown .r .count) 0) (eqb (shown .gr .count) 0 || (eqb (shown .b .count) 0 || eqb (shown .gb .count) 0)) e in
+    let gr = neither (eqb (shown .gr .count) 0) (eqb (shown .b .count) 0 || eqb (shown .gb .count) 0) (r .1) in
+    let b = neither (eqb (shown .b .count) 0) (eqb (shown .gb .count) 0) (gr .1) in
+    (some (shown .r .count) (r .0), (some (shown .gr .count) (gr .0), (some (shown .b .count) (b .0), some (shown .gb .count) (b .1))))
+  where
+    some : (n : ℕ) → eqb n 0 ≡ false → 0 < n
+    some n t = let not-none = eqb-false n 0 t in omega arith
+
+module _ (w h full black order : ℕ) (mask frame : List ℕ) where
+  -- the tests in the order of document 01, 9 before 7
+  abbrev pub tests : List Test
+  tests =
+      test 1 0 (badSides w h)
+      ∷ test 2 0 (badScale full)
+      ∷ test 3 0 (ltb full black)
+      ∷ test 3 0 (ltb 3 order)
+      ∷ test 4 0 (otherThan (sitesOf w h) (length mask))
+      ∷ test 4 0 (otherThan (sitesOf w h) (length frame))
+      ∷ testFirst 5 (sitesOf w h) (badCode mask)
+      ∷ testFirst 6 (sitesOf w h) (above full (seen mask frame))
+      ∷ test 9 0 (tooSmall w h)
+      ∷ test 7 0 (someEmpty (centresSeen w h order mask frame))
+      ∷ test 10 0 (notAbove (aboveBlack black (centresSeen w h order mask frame .gr)))
+      ∷ []
+
+  pub table : Tabled (colourVerdict w h full black order mask frame) tests
+  unfolding colourVerdict refuseFirst
+  table = rw shape-then (tabled _ _)
+
+  -- what is judged of buffers of another length does not matter: 4 comes first
+  pub judged : (shown : Centres) → shown ≡ centresOf order (λ (plane : ℕ). boxSums w h plane (centreOf w h) mask frame)
+      → shapeOf w h full
+      ⨟ refuseIf 3 0 (ltb full black)
+      ⨟ refuseIf 3 0 (ltb 3 order)
+      ⨟ refuseIf 4 0 (otherThan (sitesOf w h) (length mask))
+      ⨟ refuseIf 4 0 (otherThan (sitesOf w h) (length frame))
+      ⨟ codesOf (walked w h (length mask)) mask
+      ⨟ samplesOf (min (walked w h (length mask)) (walked w h (length frame))) full (seen mask frame)
+      ⨟ refuseIf 9 0 (tooSmall w h)
+      ⨟ refuseIf 7 0 (someEmpty shown)
+      ⨟ refuseIf 10 0 (notAbove (aboveBlack black (shown .gr)))
+      ≡ colourVerdict w h full black order mask frame
+  unfolding colourVerdict
+  judged shown p =
+      then-same (shapeOf w h full) (λ c. then-same (refuseIf 3 0 (ltb full black)) (λ _. then-same (refuseIf 3 0 (ltb 3 order)) (λ _.
+      measured (sitesOf w h) (length mask) (λ e. measured (sitesOf w h) (length frame) (λ f.
+      rw (codes-whole w h mask e, samples-whole w h full mask frame e f, p ∙ shown-whole w h order mask frame (shape-clear w h full c .0) e f))))))
+
+  -- what an accepted call has
+  pub record Accepted : Type 0 where
+    pub legal : Sides w h
+    pub masked : length mask ≡ sitesOf w h
+    pub framed : length frame ≡ sitesOf w h
+    pub scale : full ≤ 4095
+    pub dark : black ≤ full
+    pub wide : 32 ≤ w / 2
+    pub high : 24 ≤ h / 2
+    pub r : Lit full (centresSeen w h order mask frame .r)
+    pub gr : Lit full (centresSeen w h order mask frame .gr)
+    pub b : Lit full (centresSeen w h order mask frame .b)
+    pub gb : Lit full (centresSeen w h order mask frame .gb)
+    pub bright : black * centresSeen w h order mask frame .gr .count < centresSeen w h order mask frame .gr .total
+
+  pub accepted : colourVerdict w h full black order mask frame ≡ verdict.Clear → Accepted
+  unfolding tooSmall
+  accepted e =
+      let p₁ = table .clear e in
+      let p₂ = passed-tail p₁ in
+      let p₃ = passed-tail p₂ in
+      let p₄ = passed-tail (passed-tail p₃) in
+      let p₆ = passed-tail (passed-tail (passed-tail p₄)) in
+      let p₉ = passed-tail p₆ in
+      let p₇ = passed-tail p₉ in
+      let legal = sides w h (passed-head p₁) in
+      let large = neither (ltb (w / 2) 32) (ltb (h / 2) 24) (passed-head p₉) in
+      let some = filled (centresSeen w h order mask frame) (passed-head p₇) in
+      let most = in-range (sitesOf w h) full (seen mask frame) (passed-head p₆) in
+      let lit : (plane : ℕ) → 0 < centreSums w h (seen mask frame) (one mask) plane .count → Lit full (centreSums w h (seen mask frame) (one mask) plane) =
+      λ plane more. record { some = more; few = few w h mask frame plane; low = low w h mask frame plane full (λ i l. most i (omega (arith, legal .sites))) } in
+      record {
+        legal = legal;
+        masked = same-length (sitesOf w h) (length mask) (passed-head p₄);
+        framed = same-length (sitesOf w h) (length frame) (passed-head (passed-tail p₄));
+        scale = scale full (passed-head p₂) .high;
+        dark = ltb-false full black (passed-head p₃);
+        wide = ltb-false (w / 2) 32 (large .0);
+        high = ltb-false (h / 2) 24 (large .1);
+        r = lit (mosaicOf order .r) (some .0);
+        gr = lit (mosaicOf order .gr) (some .1 .0);
+        b = lit (mosaicOf order .b) (some .1 .1 .0);
+        gb = lit (mosaicOf order .gb) (some .1 .1 .1);
+        bright = above-black black (centresSeen w h order mask frame .gr) (passed-head (passed-tail p₇));
+      }
+
+  pub refused-is : (r : Refusal) → colourVerdict w h full black order mask frame ≡ verdict.Refused r
+      → (Refused r ≡ colourAnswer w h full black order mask frame) × (paperOf (Refused r) ≡ colourPaper w h full black order mask frame)
+  unfolding colourAnswer colourPaper
+  refused-is r e = rw e (refl, refl)
+
+  pub accepted-is : colourVerdict w h full black order mask frame ≡ verdict.Clear
+      → (shown : Centres) → shown ≡ centresSeen w h order mask frame → (r b gb : Ratio)
+      → r ≡ ratioOf black (shown .r) (shown .gr) → b ≡ ratioOf black (shown .b) (shown .gr) → gb ≡ ratioOf black (shown .gb) (shown .gr)
+      → (OverGr r b gb ≡ colourAnswer w h full black order mask frame) × (paperOf (OverGr r b gb) ≡ colourPaper w h full black order mask frame)
+  unfolding colourAnswer colourPaper
+  accepted-is e shown s r b gb p q t = rw (e, p, q, t, s) (refl, refl)
+
+  -- what ratios that are answered say
+  pub answer-is : (r b gb : Ratio) → colourAnswer w h full black order mask frame ≡ OverGr r b gb
+      → (colourVerdict w h full black order mask frame ≡ verdict.Clear)
+      × ((r ≡ ratioOf black (centresSeen w h order mask frame .r) (centresSeen w h order mask frame .gr))
+      × (b ≡ ratioOf black (centresSeen w h order mask frame .b) (centresSeen w h order mask frame .gr))
+      × (gb ≡ ratioOf black (centresSeen w h order mask frame .gb) (centresSeen w h order mask frame .gr)))
+  unfolding colourAnswer
+  answer-is r b gb = by (colourVerdict w h full black order mask frame) (centresSeen w h order mask frame)
+    where
+      by : (v : Verdict) (shown : Centres) → answered v black shown ≡ OverGr r b gb
+          → (v ≡ verdict.Clear)
+          × ((r ≡ ratioOf black (shown .r) (shown .gr)) × (b ≡ ratioOf black (shown .b) (shown .gr)) × (gb ≡ ratioOf black (shown .gb) (shown .gr)))
+      by verdict.Clear shown e = (refl, (cc, cc, cc))
+      by (verdict.Refused r) shown e = let z : _≡_ {A = ℕ} 0 1 = cc in absurd (omega arith)

@@ -1,0 +1,81 @@
+-- Sites outside the four centres decide nothing but 5 and 6: past these, all that is judged and divided is what is seen in the centres.
+use Prim.Native.Nat.{ℕ, _≤_, _<_}
+use mathlib.Core.Bool.{Bool}
+use mathlib.Core.List.{List}
+use mathlib.Core.Path.{_≡_, refl, sym, ap, ap₂, _∙_, subst, fun-ext}
+use lib.ListN.{length}
+use Rattle.window.specs.Shape.{sitesOf}
+use Rattle.window.specs.View.{seen, one}
+use Rattle.window.specs.Verdict.{_⨟_, refuseIf, refuseFirst, numberOf}
+use Rattle.window.specs.Judge.{otherThan}
+use Rattle.window.specs.Plane.{planeRow, planeColumn, sums}
+use Rattle.window.specs.declared.Sums.{Sums}
+use Rattle.window.specs.declared.Verdict.{Verdict}
+use Rattle.window.specs.declared.Verdict.the-variants as verdict
+use Rattle.window.proofs.Verdicts.{not-given}
+use Rattle.window.proofs.Planes.{box-seen}
+use Rattle.colour.specs.Bayer.{centresOf}
+use Rattle.colour.specs.Centre.{centreOf, tooSmall, someEmpty}
+use Rattle.colour.specs.Colour.{aboveBlack, notAbove, centresSeen, colourVerdict, answered, colourAnswer}
+use Rattle.colour.specs.declared.Centres.{Centres}
+
+-- a verdict that gives neither 5 nor 6
+abbrev pub Quiet : Verdict → Type 0
+Quiet v = (numberOf v ≡ 5 → ⊥) × (numberOf v ≡ 6 → ⊥)
+
+-- a test that two calls share, past which neither gives 5 or 6
+past : {a a′ b d : Verdict} → a ≡ a′ → Quiet (a ⨟ b) → Quiet (a′ ⨟ d) → (Quiet b → Quiet d → b ≡ d) → a ⨟ b ≡ a′ ⨟ d
+unfolding _⨟_
+past {a} {a′} {b} {d} e p q f =
+    let first = ap (λ (v : Verdict). v ⨟ b) e in
+    first ∙ by a′ (subst (λ (v : Verdict). Quiet v) first p) q
+  where
+    by : (v : Verdict) → Quiet (v ⨟ b) → Quiet (v ⨟ d) → v ⨟ b ≡ v ⨟ d
+    by verdict.Clear p q = f p q
+    by (verdict.Refused r) p q = refl
+
+-- searches of which nothing is given leave what follows
+unsearched : (n k : ℕ) (bad over : ℕ → Bool) (v : Verdict) → Quiet (refuseFirst 5 n bad ⨟ refuseFirst 6 k over ⨟ v)
+    → refuseFirst 5 n bad ⨟ refuseFirst 6 k over ⨟ v ≡ v
+unsearched n k bad over v q =
+    let e = not-given 5 n bad (refuseFirst 6 k over ⨟ v) (q .0) in
+    e ∙ not-given 6 k over v (λ given. q .1 (ap numberOf e ∙ given))
+
+-- a site that lies in the centre of its plane
+pub record InCentre (w h i : ℕ) : Type 0 where
+  pub top : centreOf w h .top ≤ planeRow w i
+  pub bottom : planeRow w i < centreOf w h .bottom
+  pub left : centreOf w h .left ≤ planeColumn w i
+  pub right : planeColumn w i < centreOf w h .right
+
+module _ (w h full black order : ℕ) (mask frame mask′ frame′ : List ℕ) (m : length mask ≡ length mask′) (f : length frame ≡ length frame′)
+    (alike : (i : ℕ) → InCentre w h i → (one mask i ≡ one mask′ i) × (seen mask frame i ≡ seen mask′ frame′ i)) where
+  same-shown : centresSeen w h order mask frame ≡ centresSeen w h order mask′ frame′
+  same-shown =
+      ap (λ (shown : ℕ → Sums). centresOf order shown)
+      (fun-ext (λ plane. ap₂ sums
+      (box-seen w h plane (centreOf w h) (one mask) (one mask′) (λ i t b l r. alike i (record { top = t; bottom = b; left = l; right = r }) .0))
+      (box-seen w h plane (centreOf w h) (seen mask frame) (seen mask′ frame′) (λ i t b l r. alike i (record { top = t; bottom = b; left = l; right = r }) .1))))
+
+  -- 4 sees only lengths
+  measured : {n k : ℕ} → n ≡ k → refuseIf 4 0 (otherThan (sitesOf w h) n) ≡ refuseIf 4 0 (otherThan (sitesOf w h) k)
+  measured e = ap (λ (n : ℕ). refuseIf 4 0 (otherThan (sitesOf w h) n)) e
+
+  -- and 9, 7 and 10 what is in the centres
+  same-rest : refuseIf 9 0 (tooSmall w h)
+      ⨟ refuseIf 7 0 (someEmpty (centresSeen w h order mask frame))
+      ⨟ refuseIf 10 0 (notAbove (aboveBlack black (centresSeen w h order mask frame .gr)))
+      ≡ refuseIf 9 0 (tooSmall w h)
+      ⨟ refuseIf 7 0 (someEmpty (centresSeen w h order mask′ frame′))
+      ⨟ refuseIf 10 0 (notAbove (aboveBlack black (centresSeen w h order mask′ frame′ .gr)))
+  same-rest =
+      ap (λ (shown : Centres). refuseIf 9 0 (tooSmall w h) ⨟ refuseIf 7 0 (someEmpty shown) ⨟ refuseIf 10 0 (notAbove (aboveBlack black (shown .gr)))) same-shown
+
+  pub seen-alike : Quiet (colourVerdict w h full black order mask frame) → Quiet (colourVerdict w h full black order mask′ frame′)
+      → colourAnswer w h full black order mask frame ≡ colourAnswer w h full black order mask′ frame′
+  unfolding colourAnswer colourVerdict
+  seen-alike p q =
+      ap₂ (λ (v : Verdict) (shown : Centres). answered v black shown)
+      (past refl p q (λ p q. past refl p q (λ p q. past refl p q (λ p q. past (measured m) p q (λ p q. past (measured f) p q (λ p q.
+      unsearched _ _ _ _ _ p ∙ same-rest ∙ sym (unsearched _ _ _ _ _ q)))))))
+      same-shown

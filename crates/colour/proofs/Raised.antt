@@ -1,0 +1,70 @@
+-- A black level and samples that are raised alike leave every T as it is, and so every test and every ratio.
+use Prim.Native.Nat.{ℕ, _+_, _*_, _≤_, _<_}
+use mathlib.Core.Bool.{true}
+use mathlib.Core.List.{List}
+use mathlib.Core.Path.{_≡_, refl, sym, ap, _∙_}
+use native.Mathlib.Omega.{arith}
+use lib.Dec.{ltb}
+use lib.ListN.{length, getD}
+use borrow.Author.Tests.{le-ltb}
+use Rattle.laws.proofs.Firsts.{first-ext}
+use Rattle.window.specs.Shape.{sitesOf}
+use Rattle.window.specs.View.{surveyed, above, seen, one}
+use Rattle.window.specs.Verdict.{refuseIf, refuseFirst}
+use Rattle.window.specs.Judge.{shapeOf, samplesOf}
+use Rattle.window.specs.declared.Verdict.{Verdict}
+use Rattle.window.specs.declared.Verdict.the-variants as verdict
+use Rattle.window.proofs.Sides.{Sides}
+use Rattle.window.proofs.Verdicts.{then-same}
+use Rattle.window.proofs.Views.{seen-most, seen-raised}
+use Rattle.window.proofs.Planes.{box-above}
+use Rattle.window.proofs.Chains.{shape-clear}
+use Rattle.colour.specs.Bayer.{mosaicOf}
+use Rattle.colour.specs.Centre.{centreOf, centreSums, someEmpty}
+use Rattle.colour.specs.Colour.{ratioOf, centresSeen, colourVerdict, answered, colourAnswer}
+use Rattle.colour.proofs.Judged.{accepted}
+use Rattle.colour.proofs.Figures.{same-total, same-ratio, same-answer}
+
+module _ (w h full black order d : ℕ) (mask frame brighter : List ℕ) (long : length brighter ≡ length frame) (dark : black + d ≤ full)
+    (each : (i : ℕ) → i < sitesOf w h → surveyed (getD mask i 0) ≡ true → (getD brighter i 0 ≡ getD frame i 0 + d) × (getD brighter i 0 ≤ full)) where
+  lifted : (i : ℕ) → i < sitesOf w h → seen mask brighter i ≡ seen mask frame i + d * one mask i
+  lifted i l = seen-raised mask frame brighter d i (λ t. each i l t .0)
+
+  -- neither frame has a surveyed sample above full scale
+  in-scale : (i : ℕ) → i < sitesOf w h → above full (seen mask brighter) i ≡ above full (seen mask frame) i
+  in-scale i l =
+      let most : seen mask brighter i ≤ full = seen-most mask brighter full i (λ t. each i l t .1) in
+      le-ltb full (seen mask brighter i) most ∙ sym (le-ltb full (seen mask frame i) (omega (arith, lifted i l)))
+
+  samples : samplesOf (sitesOf w h) full (seen mask brighter) ≡ samplesOf (sitesOf w h) full (seen mask frame)
+  unfolding refuseFirst
+  samples =
+      ap (λ (k : ℕ). refuseIf 6 k (ltb k (sitesOf w h)))
+      (first-ext (sitesOf w h) (above full (seen mask brighter)) (above full (seen mask frame)) in-scale)
+
+  module _ (legal : Sides w h) where
+    totals : (plane : ℕ)
+        → centreSums w h (seen mask brighter) (one mask) plane .total
+        ≡ centreSums w h (seen mask frame) (one mask) plane .total + d * centreSums w h (seen mask frame) (one mask) plane .count
+    totals plane =
+        box-above w h plane (centreOf w h) d (one mask) (seen mask frame) (seen mask brighter)
+        (λ i l. lifted i (omega (arith, legal .sites)))
+
+    ratios : (plane : ℕ)
+        → ratioOf (black + d) (centreSums w h (seen mask brighter) (one mask) plane) (centresSeen w h order mask brighter .gr)
+        ≡ ratioOf black (centreSums w h (seen mask frame) (one mask) plane) (centresSeen w h order mask frame .gr)
+    ratios plane = same-ratio black d _ _ _ _ refl (totals plane) refl (totals (mosaicOf order .gr))
+
+  same-verdict : colourVerdict w h full (black + d) order mask brighter ≡ colourVerdict w h full black order mask frame
+  unfolding colourVerdict someEmpty
+  same-verdict =
+      then-same (shapeOf w h full) (λ c.
+      rw (le-ltb full (black + d) dark, le-ltb full black (omega arith), long, samples, same-total black d _ _ refl (totals (shape-clear w h full c .0) (mosaicOf order .gr))))
+
+  pub lifted-alike : colourAnswer w h full (black + d) order mask brighter ≡ colourAnswer w h full black order mask frame
+  unfolding colourAnswer
+  lifted-alike =
+      ap (λ (v : Verdict). answered v (black + d) (centresSeen w h order mask brighter)) same-verdict
+      ∙ same-answer (colourVerdict w h full black order mask frame) (black + d) black (centresSeen w h order mask brighter) (centresSeen w h order mask frame)
+      (λ e. let legal = accepted w h full black order mask frame e .legal in
+      (ratios legal (mosaicOf order .r), ratios legal (mosaicOf order .b), ratios legal (mosaicOf order .gb)))

@@ -1,0 +1,100 @@
+-- `judge` is right because it asks the definition's tests in its order, and what it asks of buffers of another length comes after 4.
+use Prim.Native.Nat.{ℕ}
+use mathlib.Core.Path.{_≡_, ap, _∙_}
+use lib.ListN.{length}
+use borrow.Author.Needs.{needs}
+use Rattle.colour.proofs.Judged.{judged}
+use Rattle.window.proofs.Verdicts.{then-of}
+use Rattle.window.specs.Judge.{otherThan}
+use Rattle.window.specs.Verdict.{refuseIf}
+use Rattle.window.specs.Shape.{sitesOf}
+use Rattle.colour.proofs.judge.Statement.{statement}
+use Rattle.colour.proofs.judge.Tie as tie
+
+sites-requires : tie.Need-sites-requires
+sites-requires c κs = search needs
+
+shape-requires : tie.Need-shape-requires
+shape-requires c κs = search needs
+
+refuse-if-requires : tie.Need-refuse-if-requires
+refuse-if-requires c κs = search needs
+
+refuse-if-requires-2 : tie.Need-refuse-if-requires-2
+refuse-if-requires-2 c κs = search needs
+
+refuse-if-requires-3 : tie.Need-refuse-if-requires-3
+refuse-if-requires-3 c κs = search needs
+
+refuse-if-requires-4 : tie.Need-refuse-if-requires-4
+refuse-if-requires-4 c κs = search needs
+
+codes-requires : tie.Need-codes-requires
+codes-requires c κs = search needs
+
+samples-requires : tie.Need-samples-requires
+samples-requires c κs = search needs
+
+judge-centres-requires : tie.Need-judge-centres-requires
+judge-centres-requires c κs = search needs
+
+then-requires : tie.Need-then-requires
+then-requires c κs = search needs
+
+then-requires-2 : tie.Need-then-requires-2
+then-requires-2 c κs = search needs
+
+then-requires-3 : tie.Need-then-requires-3
+then-requires-3 c κs = search needs
+
+then-requires-4 : tie.Need-then-requires-4
+then-requires-4 c κs = search needs
+
+then-requires-5 : tie.Need-then-requires-5
+then-requires-5 c κs = search needs
+
+then-requires-6 : tie.Need-then-requires-6
+then-requires-6 c κs = search needs
+
+then-requires-7 : tie.Need-then-requires-7
+then-requires-7 c κs = search needs
+
+returns : tie.Need-returns
+returns c = let lengths = c .before .before .before in
+    let shown = lengths .before .before .before .before in
+    let frame-long = shown .before .before .before in
+    let shape = frame-long .before .before .before .before in
+    let start = shape .before .before .before .before in
+    let a = start .args in
+    let long : (l : ℕ) → refuseIf 4 0 (otherThan (shape .before .sites .result) l) ≡ refuseIf 4 0 (otherThan (sitesOf (a .width) (a .height)) l) =
+    λ l. ap (λ (n : ℕ). refuseIf 4 0 (otherThan n l)) (shape .before .sites .ensures .0) in
+    then-of (c .then7 .ensures) (shape .shape .ensures)
+    (then-of (c .before .then6 .ensures) (frame-long .before .before .before .refuse-if .ensures)
+    (then-of (c .before .before .then5 .ensures) (frame-long .before .before .refuse-if2 .ensures)
+    (then-of (lengths .then4 .ensures) (frame-long .before .refuse-if3 .ensures ∙ long (length (a .mask .now)))
+    (then-of (lengths .before .then3 .ensures) (frame-long .refuse-if4 .ensures ∙ long (length (a .frame .now)))
+    (then-of (lengths .before .before .then2 .ensures) (shown .before .before .codes .ensures)
+    (then-of (lengths .before .before .before .then .ensures) (shown .before .samples .ensures) (shown .judge-centres .ensures)))))))
+    ∙ judged (a .width) (a .height) (a .full-scale) (a .black-level) (a .bayer-order) (a .mask .now) (a .frame .now) (a .seen) (start .pre .0)
+
+pub judge-spec : {M : Type 1} → statement M
+judge-spec =
+    tie.close
+    (tie.spec
+    sites-requires
+    shape-requires
+    refuse-if-requires
+    refuse-if-requires-2
+    refuse-if-requires-3
+    refuse-if-requires-4
+    codes-requires
+    samples-requires
+    judge-centres-requires
+    then-requires
+    then-requires-2
+    then-requires-3
+    then-requires-4
+    then-requires-5
+    then-requires-6
+    then-requires-7
+    returns)

@@ -1,0 +1,3 @@
+pub mod Bayer
+pub mod Centre
+pub mod Colour

@@ -1,0 +1,243 @@
+// Colour ratios of the four planes' centres: document 01, "Colour ratios".
+ghost use mathlib.Core.Path.{_≡_};
+ghost use Prim.Native.Nat.{ℕ, _-_, _*_, _/_, _≤_, _<_};
+ghost use Rattle.window.specs.Verdict.{_⨟_, refuseIf};
+ghost use Rattle.window.specs.Plane.{boxSums};
+ghost use Rattle.colour.specs.Bayer.{mosaicOf, centresOf};
+ghost use Rattle.colour.specs.Centre.{centreOf, tooSmall, someEmpty};
+ghost use Rattle.colour.specs.Colour.{aboveBlack, notAbove, ratioOf, colourVerdict, colourAnswer, paperOf, colourPaper};
+use window::PlaneBox;
+use window::Refusal;
+use window::Sums;
+use window::Verdict;
+
+// A ratio over Gr, unreduced.
+pub struct Ratio {
+    pub numerator: i64,
+    pub denominator: u64,
+}
+
+// R, B and Gb over Gr, or a refusal.
+pub enum Colour {
+    OverGr(Ratio, Ratio, Ratio),
+    Refused(Refusal),
+}
+
+// The plane that has each colour.
+pub struct Mosaic {
+    pub r: usize,
+    pub gr: usize,
+    pub b: usize,
+    pub gb: usize,
+}
+
+// What is seen in the centre of each colour's plane.
+pub struct Centres {
+    pub r: Sums,
+    pub gr: Sums,
+    pub b: Sums,
+    pub gb: Sums,
+}
+
+fn mosaic_of(bayer_order: u64) -> Mosaic
+    ensures { λ r. ⌜ r ≡ mosaicOf «bayer_order» ⌝ }
+{
+    if bayer_order == 0 {
+        return Mosaic {
+            r: 0,
+            gr: 1,
+            b: 3,
+            gb: 2,
+        };
+    }
+    if bayer_order == 1 {
+        return Mosaic {
+            r: 1,
+            gr: 0,
+            b: 2,
+            gb: 3,
+        };
+    }
+    if bayer_order == 2 {
+        return Mosaic {
+            r: 3,
+            gr: 2,
+            b: 0,
+            gb: 1,
+        };
+    }
+    Mosaic {
+        r: 2,
+        gr: 3,
+        b: 1,
+        gb: 0,
+    }
+}
+
+// Where the centre begins on a side of a plane: half the rest, rounded down. A side that is too short leaves none.
+fn begin(side: usize, long: usize) -> usize
+    ensures { λ r. ⌜ r ≡ (side - long) / 2 ⌝ }
+{
+    if side < long {
+        return 0;
+    }
+    (side - long) / 2
+}
+
+fn centre(width: usize, height: usize) -> PlaneBox
+    ensures { λ r. ⌜ r ≡ centreOf width height ⌝ }
+{
+    let top = begin(height / 2, 24);
+    let left = begin(width / 2, 32);
+    PlaneBox {
+        top,
+        bottom: top + 24,
+        left,
+        right: left + 32,
+    }
+}
+
+fn centres_seen(
+    width: usize,
+    height: usize,
+    bayer_order: u64,
+    mask: &[u8],
+    frame: &[u16],
+) -> Centres
+    ensures { λ r. ⌜ r ≡ centresOf «bayer_order» (λ (plane : ℕ). boxSums width height plane (centreOf width height) (now (mask .entry)) (now (frame .entry))) ⌝ }
+    ensures { λ r. ⌜ (r .gr .count ≤ 4096) × (r .gr .total ≤ 65535 * r .gr .count) ⌝ }
+{
+    let planes = mosaic_of(bayer_order);
+    let within = centre(width, height);
+    let r = window::box_sums(width, height, planes.r, within, mask, frame);
+    let gr = window::box_sums(width, height, planes.gr, within, mask, frame);
+    let b = window::box_sums(width, height, planes.b, within, mask, frame);
+    let gb = window::box_sums(width, height, planes.gb, within, mask, frame);
+    Centres { r, gr, b, gb }
+}
+
+fn too_small(width: usize, height: usize) -> bool
+    ensures { λ r. ⌜ r ≡ tooSmall width height ⌝ }
+{
+    width / 2 < 32 || height / 2 < 24
+}
+
+fn some_empty(seen: Centres) -> bool
+    ensures { λ r. ⌜ r ≡ someEmpty seen ⌝ }
+{
+    if seen.r.count == 0 {
+        return true;
+    }
+    if seen.gr.count == 0 {
+        return true;
+    }
+    if seen.b.count == 0 {
+        return true;
+    }
+    seen.gb.count == 0
+}
+
+// Whether T is not above 0. A black level that no sample reaches is not multiplied.
+fn not_above(black_level: u64, seen: Sums) -> bool
+    requires { ⌜ (seen .count ≤ 4096) × (seen .total ≤ 65535 * seen .count) ⌝ }
+    ensures { λ r. ⌜ r ≡ notAbove (aboveBlack «black_level» seen) ⌝ }
+{
+    if 65535 < black_level {
+        return true;
+    }
+    seen.total <= black_level * seen.count
+}
+
+// Refusals 9, 7 and 10, in that order.
+fn judge_centres(width: usize, height: usize, black_level: u64, seen: Centres) -> Verdict
+    requires { ⌜ (seen .gr .count ≤ 4096) × (seen .gr .total ≤ 65535 * seen .gr .count) ⌝ }
+    ensures { λ r. ⌜ r ≡ refuseIf 9 0 (tooSmall width height) ⨟ refuseIf 7 0 (someEmpty seen) ⨟ refuseIf 10 0 (notAbove (aboveBlack «black_level» (seen .gr))) ⌝ }
+{
+    let small = window::refuse_if(9, 0, too_small(width, height));
+    let empty = window::refuse_if(7, 0, some_empty(seen));
+    let dark = window::refuse_if(10, 0, not_above(black_level, seen.gr));
+    window::then(small, window::then(empty, dark))
+}
+
+// The refusals in their order.
+fn judge(
+    width: usize,
+    height: usize,
+    full_scale: u64,
+    black_level: u64,
+    bayer_order: u64,
+    mask: &[u8],
+    frame: &[u16],
+    seen: Centres,
+) -> Verdict
+    requires { ⌜ seen ≡ centresOf «bayer_order» (λ (plane : ℕ). boxSums width height plane (centreOf width height) (now mask) (now frame)) ⌝ }
+    requires { ⌜ (seen .gr .count ≤ 4096) × (seen .gr .total ≤ 65535 * seen .gr .count) ⌝ }
+    ensures { λ r. ⌜ r ≡ colourVerdict width height «full_scale» «black_level» «bayer_order» (now (mask .entry)) (now (frame .entry)) ⌝ }
+{
+    let n = window::sites(width, height);
+    let shape = window::shape(width, height, full_scale);
+    let black = window::refuse_if(3, 0, full_scale < black_level);
+    let order = window::refuse_if(3, 0, 3 < bayer_order);
+    let mask_long = window::refuse_if(4, 0, mask.len() != n);
+    let frame_long = window::refuse_if(4, 0, frame.len() != n);
+    let codes = window::codes(width, height, mask);
+    let samples = window::samples(width, height, full_scale, mask, frame);
+    let shown = judge_centres(width, height, black_level, seen);
+    let sites = window::then(codes, window::then(samples, shown));
+    let lengths = window::then(mask_long, window::then(frame_long, sites));
+    window::then(shape, window::then(black, window::then(order, lengths)))
+}
+
+// T: the sum of sample minus black level.
+fn above_black(black_level: u64, seen: Sums) -> i64
+    requires { ⌜ («black_level» ≤ 4095) × (seen .count ≤ 768) × (seen .total ≤ 4095 * 768) ⌝ }
+    ensures { λ r. ⌜ r ≡ aboveBlack «black_level» seen ⌝ }
+{
+    seen.total as i64 - (black_level * seen.count) as i64
+}
+
+// A colour over Gr.
+fn over_gr(black_level: u64, colour: Sums, gr: Sums) -> Ratio
+    requires { ⌜ («black_level» ≤ 4095) × (colour .count ≤ 768) × (colour .total ≤ 4095 * 768) × (gr .count ≤ 768) × (gr .total ≤ 4095 * 768) ⌝ }
+    requires { ⌜ «black_level» * gr .count < gr .total ⌝ }
+    ensures { λ r. ⌜ r ≡ ratioOf «black_level» colour gr ⌝ }
+{
+    let numerator = above_black(black_level, colour) * gr.count as i64;
+    let denominator = above_black(black_level, gr) * colour.count as i64;
+    Ratio {
+        numerator,
+        denominator: denominator as u64,
+    }
+}
+
+pub fn colour_ratios(
+    width: usize,
+    height: usize,
+    full_scale: u64,
+    black_level: u64,
+    bayer_order: u64,
+    mask: &[u8],
+    frame: &[u16],
+) -> Colour
+    ensures answer { λ r. ⌜ r ≡ colourAnswer width height «full_scale» «black_level» «bayer_order» (now (mask .entry)) (now (frame .entry)) ⌝ }
+    ensures paper { λ r. ⌜ paperOf r ≡ colourPaper width height «full_scale» «black_level» «bayer_order» (now (mask .entry)) (now (frame .entry)) ⌝ }
+{
+    let seen = centres_seen(width, height, bayer_order, mask, frame);
+    match judge(
+        width,
+        height,
+        full_scale,
+        black_level,
+        bayer_order,
+        mask,
+        frame,
+        seen,
+    ) {
+        Verdict::Refused(refusal) => Colour::Refused(refusal),
+        Verdict::Clear => Colour::OverGr(
+            over_gr(black_level, seen.r, seen.gr),
+            over_gr(black_level, seen.b, seen.gr),
+            over_gr(black_level, seen.gb, seen.gr),
+        ),
+    }
+}
