@@ -2,10 +2,12 @@
 use mathlib.Core.Path.{refl}
 use lib.Ieee.{round, ofBits}
 use Rattle.laws.specs.First.{firstTo}
+use Rattle.laws.specs.Greatest.{greatestTo}
 use Rattle.laws.specs.Signed.{_⊖_, sumToℤ}
-use Rattle.laws.specs.Sum.{sumTo}
+use Rattle.laws.specs.Sum.{sumTo, sumIn, sumBox}
 use Rattle.laws.specs.Table.{tabulate}
 use Rattle.window.specs.Judge.{shapeOf}
+use Rattle.window.specs.Plane.{boxSum}
 use Rattle.window.specs.Shape.{badSide, badSides, badScale, sitesOf}
 use Rattle.window.specs.Verdict.{_⨟_, refuseIf, refuseFirst}
 use Rattle.window.specs.View.{seenAt, seen, one}
@@ -14,13 +16,31 @@ use Rattle.raw.specs.Packed.{joined, sampleAt}
 use Rattle.raw.specs.Unpack.{unpackVerdict, unpackAnswer, unpackBuffer}
 use Rattle.pair.specs.Pair.{numerator, spreadOf, framesOf, pairVerdict}
 use Rattle.pair.specs.Answers.{varianceAnswer, noiseAnswer}
-use Rattle.edges.specs.Table.{Edges}
+use Rattle.dark.specs.Dark.{aboveBlack, darkVerdict, darkAnswer}
+use Rattle.sites.specs.Near.{nearSum}
+use Rattle.sites.specs.Find.{usedThreshold, far, foundAt, markedAt, foundCount, findVerdict, findAnswer, findMask}
+use Rattle.pattern.specs.Lines.{lineTotal}
+use Rattle.pattern.specs.Figures.{stepOf, standsOut, deviation, figuresOf}
+use Rattle.pattern.specs.Pattern.{badCount, patternVerdict, patternAnswer}
+use Rattle.lines.specs.Lines.{before, after, pooled, defective, markOf, markAt}
+use Rattle.lines.specs.Marks.{linesVerdict, linesAnswer, linesBuffer}
+use Rattle.edges.specs.Table.{Edges, Beside}
 
 pub edges : Edges
-unfolding round ofBits firstTo _⊖_ sumToℤ sumTo tabulate shapeOf badSide badSides badScale sitesOf _⨟_ refuseIf refuseFirst seenAt seen one root rootTo joined sampleAt unpackVerdict unpackAnswer unpackBuffer numerator spreadOf framesOf pairVerdict varianceAnswer noiseAnswer
+unfolding round ofBits firstTo greatestTo _⊖_ sumToℤ sumTo sumIn sumBox tabulate shapeOf boxSum badSide badSides badScale sitesOf _⨟_ refuseIf refuseFirst seenAt seen one root rootTo joined sampleAt unpackVerdict unpackAnswer unpackBuffer numerator spreadOf framesOf pairVerdict varianceAnswer noiseAnswer aboveBlack darkVerdict darkAnswer nearSum usedThreshold far foundAt markedAt foundCount findVerdict findAnswer findMask lineTotal stepOf standsOut deviation figuresOf badCount patternVerdict patternAnswer before after pooled defective markOf markAt linesVerdict linesAnswer linesBuffer
 edges = record {
   K1 = (refl, refl, refl);
   K2 = (refl, refl, refl);
   K3 = (refl, refl);
   K4 = (refl, refl);
+  K5 = refl;
+  K6 = (refl, refl);
+  K7 = (refl, refl);
+  K8 = refl;
+  K9 = (refl, refl);
+  K10 = (refl, refl);
 }
+
+pub beside : Beside
+unfolding firstTo greatestTo _⊖_ sumTo sumIn sumBox tabulate shapeOf boxSum badSide badSides badScale sitesOf _⨟_ refuseIf refuseFirst seenAt seen one lineTotal stepOf standsOut deviation figuresOf badCount patternVerdict patternAnswer before after pooled defective markOf markAt linesVerdict linesBuffer
+beside = record { below-zero = refl; met-unmarked = refl; met-marked = refl }

@@ -1,32 +1,78 @@
--- Document 01, "Both sides of each edge": the worked examples as one table of equations.
-use Prim.Native.Nat.{ℕ}
-use mathlib.Core.Bool.{false}
+-- Document 01, "Both sides of each edge": the worked examples K1 to K10 as one table of equations, and beside them what they leave open.
+use Prim.Native.Nat.{ℕ, _/_, _%_}
+use mathlib.Core.Bool.{false, cond, _&&_}
 use mathlib.Core.List.{List, [], _∷_}
 use mathlib.Core.Path.{_≡_}
+use lib.Dec.{eqb, ltb}
 use lib.Ieee.{fin, binary64, ofBits}
-use lib.IntN.{negsuc}
+use lib.IntN.{pos, negsuc}
+use Rattle.laws.specs.Table.{tabulate}
 use Rattle.raw.specs.Unpack.{unpackAnswer, unpackBuffer}
 use Rattle.raw.specs.declared.Unpacked.the-variants as raw
 use Rattle.pair.specs.Pair.{pairSpread}
 use Rattle.pair.specs.Answers.{varianceAnswer, noiseAnswer}
 use Rattle.pair.specs.declared.Variance.the-variants as variance
 use Rattle.pair.specs.declared.Noise.the-variants as noise
+use Rattle.dark.specs.Dark.{darkAnswer}
+use Rattle.dark.specs.declared.Dark.the-variants as dark
+use Rattle.sites.specs.Find.{findAnswer, findMask}
+use Rattle.sites.specs.declared.Defects.the-variants as sites
+use Rattle.pattern.specs.Lines.{columns}
+use Rattle.pattern.specs.Pattern.{patternAnswer}
+use Rattle.pattern.specs.declared.Pattern.the-variants as pattern
+use Rattle.lines.specs.Lines.{rows}
+use Rattle.lines.specs.Marks.{linesAnswer, linesBuffer}
+use Rattle.lines.specs.declared.Marked.the-variants as lines
 
--- four zeros: four surveyed sites, or a buffer that is still to be written
-abbrev four : List ℕ
-four = 0 ∷ 0 ∷ 0 ∷ 0 ∷ []
+-- n of one value
+abbrev all : ℕ → ℕ → List ℕ
+all n value = tabulate n (λ (i : ℕ). value)
+
+-- n of one value, but for another at one place
+abbrev but : ℕ → ℕ → ℕ → ℕ → List ℕ
+but n value place other = tabulate n (λ (i : ℕ). cond (eqb i place) other value)
 
 -- the first frame of K1 and K2
 abbrev ramp : List ℕ
 ramp = 100 ∷ 101 ∷ 102 ∷ 103 ∷ []
 
+-- 12 wide, 2 high, all 100 but columns 5 or 6 as given
+abbrev striped : ℕ → ℕ → List ℕ
+striped fifth sixth = tabulate 24 (λ (i : ℕ). cond (eqb (i % 12) 5) fifth (cond (eqb (i % 12) 6) sixth 100))
+
+-- 22 wide, 18 high, all 100 but row 4 of plane (0,0), the window's row 8 at even columns: 103 before the site `last`, 102 from there on
+abbrev raised : ℕ → List ℕ
+raised last = tabulate 396 (λ (i : ℕ). cond (eqb (i / 22) 8 && eqb (i % 2) 0) (cond (ltb i last) 103 102) 100)
+
 pub record Edges : Type 0 where
   -- 4/32 is 1 × 2⁻³, and 90/256 is 45 × 2⁻⁷
-  pub K1 : (pairSpread 2 2 four ramp (101 ∷ 101 ∷ 102 ∷ 104 ∷ []) ≡ record { n = 4; p = 4 })
-      × (varianceAnswer 2 2 1023 four ramp (101 ∷ 101 ∷ 102 ∷ 104 ∷ []) ≡ variance.Figures 4 32 (fin false 1 (negsuc 2)))
-      × (noiseAnswer 2 2 1023 four ramp (101 ∷ 101 ∷ 102 ∷ 104 ∷ []) ≡ noise.Figure (fin false 45 (negsuc 6)) 90 4)
-  pub K2 : (pairSpread 2 2 four ramp (107 ∷ 108 ∷ 109 ∷ 110 ∷ []) ≡ record { n = 4; p = 0 })
-      × (varianceAnswer 2 2 1023 four ramp (107 ∷ 108 ∷ 109 ∷ 110 ∷ []) ≡ variance.Figures 0 32 (ofBits binary64 0))
-      × (noiseAnswer 2 2 1023 four ramp (107 ∷ 108 ∷ 109 ∷ 110 ∷ []) ≡ noise.Figure (ofBits binary64 0) 0 4)
-  pub K3 : (unpackAnswer 2 2 5 4 ≡ raw.Done) × (unpackBuffer 2 2 (25 ∷ 25 ∷ 25 ∷ 25 ∷ 228 ∷ []) four ≡ 100 ∷ 101 ∷ 102 ∷ 103 ∷ [])
-  pub K4 : (unpackAnswer 2 2 5 4 ≡ raw.Done) × (unpackBuffer 2 2 (25 ∷ 25 ∷ 25 ∷ 26 ∷ 37 ∷ []) four ≡ 101 ∷ 101 ∷ 102 ∷ 104 ∷ [])
+  pub K1 : (pairSpread 2 2 (all 4 0) ramp (101 ∷ 101 ∷ 102 ∷ 104 ∷ []) ≡ record { n = 4; p = 4 })
+      × (varianceAnswer 2 2 1023 (all 4 0) ramp (101 ∷ 101 ∷ 102 ∷ 104 ∷ []) ≡ variance.Figures 4 32 (fin false 1 (negsuc 2)))
+      × (noiseAnswer 2 2 1023 (all 4 0) ramp (101 ∷ 101 ∷ 102 ∷ 104 ∷ []) ≡ noise.Figure (fin false 45 (negsuc 6)) 90 4)
+  pub K2 : (pairSpread 2 2 (all 4 0) ramp (107 ∷ 108 ∷ 109 ∷ 110 ∷ []) ≡ record { n = 4; p = 0 })
+      × (varianceAnswer 2 2 1023 (all 4 0) ramp (107 ∷ 108 ∷ 109 ∷ 110 ∷ []) ≡ variance.Figures 0 32 (ofBits binary64 0))
+      × (noiseAnswer 2 2 1023 (all 4 0) ramp (107 ∷ 108 ∷ 109 ∷ 110 ∷ []) ≡ noise.Figure (ofBits binary64 0) 0 4)
+  pub K3 : (unpackAnswer 2 2 5 4 ≡ raw.Done) × (unpackBuffer 2 2 (25 ∷ 25 ∷ 25 ∷ 25 ∷ 228 ∷ []) (all 4 0) ≡ 100 ∷ 101 ∷ 102 ∷ 103 ∷ [])
+  pub K4 : (unpackAnswer 2 2 5 4 ≡ raw.Done) × (unpackBuffer 2 2 (25 ∷ 25 ∷ 25 ∷ 26 ∷ 37 ∷ []) (all 4 0) ≡ 101 ∷ 101 ∷ 102 ∷ 104 ∷ [])
+  -- −4 over 4
+  pub K5 : darkAnswer 2 2 1023 64 (all 4 0) (60 ∷ 64 ∷ 64 ∷ 64 ∷ []) ≡ dark.Level (negsuc 3) 4
+  pub K6 : (findAnswer 4 4 1023 28 (all 16 0) (but 16 64 5 102) 16 ≡ sites.Found 1)
+      × (findMask 4 4 1023 28 (all 16 0) (but 16 64 5 102) (all 16 3) ≡ but 16 0 5 2)
+  pub K7 : (findAnswer 4 4 1023 28 (all 16 0) (but 16 64 5 101) 16 ≡ sites.Found 0)
+      × (findMask 4 4 1023 28 (all 16 0) (but 16 64 5 101) (all 16 3) ≡ all 16 0)
+  pub K8 : patternAnswer columns 12 2 1023 1 (all 24 0) (striped 100 110)
+      ≡ pattern.Measured (record { «level_numerator» = 800; «level_denominator» = 46047276; «max_numerator» = pos 200; «max_denominator» = 20460 })
+  -- row 4 of plane (0,1), whose marks begin at 9
+  pub K9 : (linesAnswer rows 2 18 1023 (all 36 0) (but 36 100 17 103) 36 ≡ lines.Done)
+      × (linesBuffer rows 2 18 1023 (all 36 0) (but 36 100 17 103) (all 36 0) ≡ but 36 0 13 1)
+  pub K10 : (linesAnswer rows 2 18 1023 (all 36 0) (but 36 100 17 102) 36 ≡ lines.Done)
+      × (linesBuffer rows 2 18 1023 (all 36 0) (but 36 100 17 102) (all 36 0) ≡ all 36 0)
+
+-- what K1 to K10 leave open
+pub record Beside : Type 0 where
+  -- the greatest deviation is below 0: −1800 over 20460
+  pub below-zero : patternAnswer columns 12 2 1023 1 (all 24 0) (striped 0 0)
+      ≡ pattern.Measured (record { «level_numerator» = 80000; «level_denominator» = 46047276; «max_numerator» = negsuc 1799; «max_denominator» = 20460 })
+  -- a row met as often as the mirror meets it, itself twice: nine sites at 103 and two at 102 are not marked, ten and one are
+  pub met-unmarked : linesBuffer rows 22 18 1023 (all 396 0) (raised 194) (all 36 0) ≡ all 36 0
+  pub met-marked : linesBuffer rows 22 18 1023 (all 396 0) (raised 196) (all 36 0) ≡ but 36 0 4 1

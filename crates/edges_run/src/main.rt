@@ -1,6 +1,7 @@
 // Document 01's run-only edges: each call is made on both sides of its edge, and what it answers is printed.
 use pair::Noise;
 use raw::Unpacked;
+use stack::Added;
 use window::Refusal;
 
 fn refused(refusal: Refusal) {
@@ -58,10 +59,34 @@ fn pairs() {
     );
 }
 
+// A frame offered to a stack of so many.
+fn add(frames: u64) {
+    let mask = [0u8; 4];
+    let frame = [1023u16; 4];
+    let mut sums = [0u32; 4];
+    let mut squares = [0u32; 4];
+    match stack::stack_add(2, 2, 1023, frames, &mask, &frame, &mut sums, &mut squares) {
+        Added::Frames(held) => {
+            io::write_all(1, b"frames ");
+            io::print_decimal(1, held);
+            io::write_all(1, b"\n");
+        }
+        Added::Refused(refusal) => refused(refusal),
+    }
+}
+
+fn stacks() {
+    io::write_all(1, b"99, 100 and 101 frames\n");
+    add(99);
+    add(100);
+    add(101);
+}
+
 fn main() {
     io::write_all(1, b"sides 128 and 130\n");
     unpack(128, 128);
     unpack(130, 128);
     unpack(128, 130);
     pairs();
+    stacks();
 }

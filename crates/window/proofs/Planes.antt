@@ -76,8 +76,8 @@ module _ (w h plane : ℕ) (within : PlaneBox) where
   box-above d e f g raised =
       let at : (ℕ → ℕ) → ℕ → ℕ → ℕ = λ view u v. view (siteAt w plane u v) in
       let shifted =
-          box-shift (within .top) (min (within .bottom) (h / 2)) (within .left) (min (within .right) (w / 2)) (at f) (at g) d 0 (at e)
-          (λ u v p q s t. omega (arith, raised (siteAt w plane u v) (site-in w h plane u (omega arith) v (omega arith)), zero-mul (at e u v))) in
+      box-shift (within .top) (min (within .bottom) (h / 2)) (within .left) (min (within .right) (w / 2)) (at f) (at g) d 0 (at e)
+      (λ u v p q s t. omega (arith, raised (siteAt w plane u v) (site-in w h plane u (omega arith) v (omega arith)), zero-mul (at e u v))) in
       omega (arith, shifted, zero-mul (sumBox (within .top) (min (within .bottom) (h / 2)) (within .left) (min (within .right) (w / 2)) (at e)))
 
   -- a view that is nowhere above 1 adds up to no more than the box has sites
