@@ -121,6 +121,275 @@ uint64_t tip_pair_noise(size_t width, size_t height, uint64_t full_scale,
                         const uint16_t *second, size_t second_len,
                         uint64_t *place, uint64_t *r, uint64_t *n, double *noise);
 
+/*
+ * The dark level: (sum - black_level * n) / n over the n surveyed sites (mask code 0), as two whole numbers, unreduced,
+ * in grey levels. It is signed: the numerator is below 0 where the mean is below black.
+ *
+ *   full_scale    1 to 4095
+ *   black_level   0 to full_scale; usually 64 at 10 bits
+ *   mask, frame   width * height codes and samples, only read
+ *   place         written
+ *   numerator     written: sum - black_level * n
+ *   denominator   written: n
+ *
+ * Refusals, in the order tested: 1; 2; 3 (black_level above full_scale); 4 (mask or frame); 5; 6; 7 (no surveyed site).
+ *
+ *   const uint8_t mask[4] = {0, 0, 0, 0};
+ *   const uint16_t frame[4] = {60, 64, 64, 64};
+ *   uint64_t place, denominator;
+ *   int64_t numerator;
+ *   tip_dark_level(2, 2, 1023, 64, mask, 4, frame, 4, &place, &numerator, &denominator);    gives 0, and -4 / 4
+ */
+uint64_t tip_dark_level(size_t width, size_t height, uint64_t full_scale, uint64_t black_level,
+                        const uint8_t *mask, size_t mask_len,
+                        const uint16_t *frame, size_t frame_len,
+                        uint64_t *place, int64_t *numerator, uint64_t *denominator);
+
+/*
+ * Adds a frame to a stack. The caller lends a sum and a sum of squares for each site, all 0 at first, and keeps the
+ * count of frames. At surveyed sites the sample is added to the sum and its square to the sum of squares; all other
+ * sites' sums stay, and are not read. With one window, mask and full scale throughout, accepted frames give the same
+ * sums in any order.
+ *
+ *   full_scale      1 to 4095
+ *   frames          how many frames are in the stack: 0 to 99
+ *   mask, frame     width * height codes and samples, only read
+ *   sums, squares   width * height each, written where the call is accepted
+ *   place           written
+ *   count           written: frames + 1
+ *
+ * Refusals, in the order tested: 1; 2; 3 (frames above 100); 4 (mask, frame, sums or squares); 5; 6; 11 (at a surveyed
+ * site, on the sums as lent: sum above frames * full_scale, sum of squares above frames * full_scale * full_scale, or
+ * frames * sum of squares below the square of the sum); 12 (frames is 100).
+ *
+ *   const uint8_t mask[4] = {0, 0, 0, 1};
+ *   const uint16_t frame[4] = {100, 101, 102, 65535};
+ *   uint32_t sums[4] = {0}, squares[4] = {0};
+ *   uint64_t place, count;
+ *   tip_stack_add(2, 2, 1023, 0, mask, 4, frame, 4, sums, 4, squares, 4, &place, &count);
+ *                                       gives 0, count is 1, sums 100 101 102 0, squares 10000 10201 10404 0
+ */
+uint64_t tip_stack_add(size_t width, size_t height, uint64_t full_scale, uint64_t frames,
+                       const uint8_t *mask, size_t mask_len,
+                       const uint16_t *frame, size_t frame_len,
+                       uint32_t *sums, size_t sums_len,
+                       uint32_t *squares, size_t squares_len,
+                       uint64_t *place, uint64_t *count);
+
+/*
+ * The variance of a stack: the sum of frames * square - sum * sum over the n surveyed sites, over n * frames * frames,
+ * in grey levels squared, as two whole numbers, unreduced, and as a double by one rounded division.
+ *
+ *   full_scale      1 to 4095
+ *   frames          how many frames are in the stack: 2 to 100
+ *   mask            width * height codes, only read
+ *   sums, squares   width * height each, only read
+ *   place           written
+ *   numerator, denominator, variance   written
+ *
+ * Refusals, in the order tested: 1; 2; 3 (frames is 0 or above 100); 4 (mask, sums or squares); 5; 7 (no surveyed site,
+ * or frames is 1); 11 (as tip_stack_add); 14.
+ *
+ *   const uint8_t mask[4] = {0, 0, 0, 0};
+ *   const uint32_t sums[4] = {201, 202, 204, 207}, squares[4] = {20201, 20402, 20808, 21425};
+ *   uint64_t place, numerator, denominator;
+ *   double variance;
+ *   tip_stack_variance(2, 2, 1023, 2, mask, 4, sums, 4, squares, 4, &place, &numerator, &denominator, &variance);
+ *                                       gives 0, and 2 / 16, 0.125
+ */
+uint64_t tip_stack_variance(size_t width, size_t height, uint64_t full_scale, uint64_t frames,
+                            const uint8_t *mask, size_t mask_len,
+                            const uint32_t *sums, size_t sums_len,
+                            const uint32_t *squares, size_t squares_len,
+                            uint64_t *place, uint64_t *numerator, uint64_t *denominator, double *variance);
+
+/*
+ * Vertical pattern noise of a stack: how much its columns differ, from the sums that tip_stack_add has built. Every
+ * mask code must be 0. With C the column totals of the sums, h the height, w the width and k the frame count:
+ *
+ *   level squared   the sum of (C[i] - C[i+1])^2, i from 0 to w-2, over (w-1) * (h * k * full_scale)^2
+ *   Max             the greatest, signed, of 10 * C[i] less C[i-5..i-1] and C[i+1..i+5], i from 5 to w-6,
+ *                   over 10 * h * k * full_scale
+ *
+ * Both are parts of full scale, given by two whole numbers each, unreduced. The level squared is from 0 to 1, and
+ * Max from -1 to 1: its numerator may be below 0.
+ *
+ *   full_scale          grey levels, 1 to 4095
+ *   frames              the stack's frame count, 1 to 100
+ *   mask                width * height codes, only read
+ *   sums                width * height sums, grey levels, only read
+ *   place               written: the site of a 5, else 0
+ *   level_numerator, level_denominator, max_numerator, max_denominator
+ *                       written: the figures, or 0 each on a refusal
+ *
+ * Refusals, in the order tested: 1; 2; 3 (frames 0 or above 100); 4 (mask or sums); 5; 8; 9 (width below 12);
+ * 11 (a sum above frames * full_scale).
+ *
+ *   uint8_t mask[24] = {0};
+ *   uint32_t sums[24];                 every one 100, but sums[6] and sums[18] 110
+ *   uint64_t place, ln, ld, md;
+ *   int64_t mn;
+ *   tip_pattern_vertical(12, 2, 1023, 1, mask, 24, sums, 24, &place, &ln, &ld, &mn, &md);
+ *                                      gives 0, and ln/ld is 800/46047276, mn/md is 200/20460
+ */
+uint64_t tip_pattern_vertical(size_t width, size_t height, uint64_t full_scale, uint64_t frames,
+                              const uint8_t *mask, size_t mask_len,
+                              const uint32_t *sums, size_t sums_len,
+                              uint64_t *place,
+                              uint64_t *level_numerator, uint64_t *level_denominator,
+                              int64_t *max_numerator, uint64_t *max_denominator);
+
+/*
+ * Horizontal pattern noise: the same with rows. Width and height change places everywhere: the level squared is over
+ * (height-1) * (width * k * full_scale)^2, Max is over 10 * width * k * full_scale, and 9 is given where the height is
+ * below 12.
+ *
+ *   The window above turned on its side, 2 wide and 12 high with row 6 at 110, gives the same numbers.
+ */
+uint64_t tip_pattern_horizontal(size_t width, size_t height, uint64_t full_scale, uint64_t frames,
+                                const uint8_t *mask, size_t mask_len,
+                                const uint32_t *sums, size_t sums_len,
+                                uint64_t *place,
+                                uint64_t *level_numerator, uint64_t *level_denominator,
+                                int64_t *max_numerator, uint64_t *max_denominator);
+
+/*
+ * Defective sites (dark mode). A window has four planes, by the parity of row and column, each worked alone. A
+ * surveyed site (mask code 0) with sample p is compared with the surveyed ones among the 31 * 31 sites of its plane
+ * around it, cut off at the plane's edges: c of them, the site included, with the sum S. It is defective when
+ * |p * c - S| >= threshold * c. Every decision uses the mask as it came in.
+ *
+ *   full_scale   grey levels, 1 to 4095
+ *   threshold    grey levels, 1 to 4095; 0 stands for the default, 28
+ *   mask         width * height codes, only read: 0 surveyed, 1 gap, 2 defect, 3 filled
+ *   frame        width * height samples, only read; a sample at any code but 0 may be any number, and changes nothing
+ *   out_mask     width * height codes, each written: 2 where a site is newly found, else the code of mask
+ *   place        written: the first offending site of 5 or 6, else 0
+ *   count        written: how many sites are newly found (were 0 in mask and are 2 in out_mask), 0 on a refusal
+ *
+ * Refusals, in the order tested: 1; 2; 3 (threshold above 4095); 4 (mask, frame or out_mask); 5; 6.
+ *
+ *   const uint8_t mask[16] = {0};
+ *   const uint16_t frame[16] = {64, 64, 64, 64, 64, 102, 64, 64, 64, 64, 64, 64, 64, 64, 64, 64};
+ *   uint8_t out_mask[16];
+ *   uint64_t place, count;
+ *   tip_find_defects(4, 4, 1023, 28, mask, 16, frame, 16, out_mask, 16, &place, &count);
+ *                                          gives 0, count is 1, and out_mask is 2 at site 5, 0 elsewhere
+ */
+uint64_t tip_find_defects(size_t width, size_t height, uint64_t full_scale, uint64_t threshold,
+                          const uint8_t *mask, size_t mask_len,
+                          const uint16_t *frame, size_t frame_len,
+                          uint8_t *out_mask, size_t out_mask_len,
+                          uint64_t *place, uint64_t *count);
+
+/*
+ * Repair. A site of code 2 with at least one surveyed site (code 0) among its eight plane neighbours, two sites away
+ * and inside the window, gets their mean, half rounded up, and code 3; with none it stays as it is. A site of any
+ * other code is copied, sample and code. Filled sites never feed a fill, so a second repair changes nothing.
+ *
+ *   full_scale   grey levels, 1 to 4095
+ *   mask         width * height codes, only read: 0 surveyed, 1 gap, 2 defect, 3 filled
+ *   frame        width * height samples, only read
+ *   out_frame    width * height samples, each written
+ *   out_mask     width * height codes, each written
+ *   place        written: the first offending site of 5 or 6, else 0
+ *   filled       written: how many sites were filled (were 2 in mask and are 3 in out_mask), 0 on a refusal
+ *
+ * Refusals, in the order tested: 1; 2; 4 (mask, frame, out_frame or out_mask); 5; 6.
+ *
+ *   const uint8_t mask[16] = {0, 0, 0, 0, 0, 2, 0, 0, 0, 0, 0, 0, 0, 0, 0, 0};
+ *   const uint16_t frame[16] = {64, 64, 64, 64, 64, 999, 64, 65, 64, 64, 64, 64, 64, 66, 64, 66};
+ *   uint16_t out_frame[16];
+ *   uint8_t out_mask[16];
+ *   uint64_t place, filled;
+ *   tip_repair(4, 4, 1023, mask, 16, frame, 16, out_frame, 16, out_mask, 16, &place, &filled);
+ *                                          gives 0, filled is 1, and site 5 is 66 with code 3: (65 + 66 + 66) / 3
+ */
+uint64_t tip_repair(size_t width, size_t height, uint64_t full_scale,
+                    const uint8_t *mask, size_t mask_len,
+                    const uint16_t *frame, size_t frame_len,
+                    uint16_t *out_frame, size_t out_frame_len,
+                    uint8_t *out_mask, size_t out_mask_len,
+                    uint64_t *place, uint64_t *filled);
+
+/*
+ * Marks the defective rows of each of the four planes. A plane is the sites of one row parity and one column parity,
+ * and has height / 2 rows. A row with c > 0 surveyed sites (mask code 0) and sum s is compared with the eight rows of
+ * its plane above it and the eight below, pooled: count C, sum S. At the plane's edges rows are mirrored without
+ * repeating the edge (row -1 is row 1), and a row counts as often as it is met. It is defective when C > 0 and
+ * 2 * |s * C - S * c| > 5 * c * C: its mean is more than 2.5 grey levels from theirs.
+ *
+ *   full_scale   grey levels, 1 to 4095
+ *   mask         width * height codes, only read: 0 surveyed, 1 gap, 2 defect, 3 filled
+ *   frame        width * height samples, only read; a sample at any code but 0 may be any number, and changes nothing
+ *   marks        2 * height bytes, each written: 1 for a defective row, 0 for any other; the height / 2 rows of
+ *                plane (0,0), then of (0,1), (1,0), (1,1): (row parity, column parity)
+ *   place        written: the first offending site for 5 and 6, else 0
+ *
+ * Refusals, in the order tested: 1; 2; 4 (mask, frame or marks); 5; 6; 9 (height below 18).
+ *
+ *   uint8_t mask[36] = {0}, marks[36];
+ *   uint16_t frame[36];
+ *   uint64_t place;
+ *   for (int i = 0; i < 36; i++) frame[i] = 100;
+ *   frame[17] = 103;                                     row 8, column 1: row 4 of plane (0,1)
+ *   tip_defective_rows(2, 18, 1023, mask, 36, frame, 36, marks, 36, &place);
+ *                                                        gives 0, and marks[13] is 1, every other mark 0
+ */
+uint64_t tip_defective_rows(size_t width, size_t height, uint64_t full_scale,
+                            const uint8_t *mask, size_t mask_len,
+                            const uint16_t *frame, size_t frame_len,
+                            uint8_t *marks, size_t marks_len,
+                            uint64_t *place);
+
+/*
+ * Marks the defective columns of each of the four planes: as tip_defective_rows, with columns for rows. marks has
+ * 2 * width bytes, width / 2 for each plane; 9 is given for a width below 18.
+ *
+ *   With mask, frame and marks as above, and frame[26] (row 1, column 8: column 4 of plane (1,0)) 103 instead:
+ *   tip_defective_columns(18, 2, 1023, mask, 36, frame, 36, marks, 36, &place);
+ *                                                        gives 0, and marks[22] is 1, every other mark 0
+ */
+uint64_t tip_defective_columns(size_t width, size_t height, uint64_t full_scale,
+                               const uint8_t *mask, size_t mask_len,
+                               const uint16_t *frame, size_t frame_len,
+                               uint8_t *marks, size_t marks_len,
+                               uint64_t *place);
+
+/*
+ * Colour ratios of the four planes' centres: R, B and Gb over Gr.
+ *
+ * bayer_order names the colour at site (0,0): 0 R, 1 Gr, 2 B, 3 Gb. Gr shares R's rows, Gb shares B's:
+ *   0: R Gr / Gb B     1: Gr R / B Gb     2: B Gb / Gr R     3: Gb B / R Gr
+ * Of each plane (width / 2 by height / 2) the centre is taken, 32 wide and 24 high, left and top being half the rest
+ * rounded down. T is the sum over its surveyed sites of sample - black level, c their count. X over Gr is
+ * T(X) * c(Gr) over T(Gr) * c(X), unreduced; a numerator may be negative, a denominator is above 0, and neither is
+ * above 2415329280 in size.
+ *
+ *   full_scale       1 to 4095 grey levels
+ *   black_level      0 to full_scale grey levels
+ *   mask, frame      width * height each, only read; a sample whose code is not 0 may be any number
+ *   place            written: the first offending site of 5 and 6, else 0
+ *   the other six    written: the three ratios, 0 on a refusal
+ *
+ * Refusals, in the order tested: 1; 2; 3 (black_level above full_scale, bayer_order above 3); 4 (mask or frame);
+ * 5; 6; 9 (width below 64 or height below 48, even with no surveyed site); 7 (no surveyed site in some plane's
+ * centre); 10 (T(Gr) not above 0). 9 before 7 is the one exception to ascending numbers. 5 and 6 look at the whole
+ * window.
+ *
+ *   64 * 48 samples of 100, but 164 at even rows and columns; mask all 0:
+ *   tip_colour_ratios(64, 48, 1023, 64, 0, mask, 3072, frame, 3072, &place, &rn, &rd, &bn, &bd, &gn, &gd);
+ *   gives 0, and R/Gr is 58982400/21233664, B/Gr and Gb/Gr are 21233664/21233664
+ */
+uint64_t tip_colour_ratios(size_t width, size_t height, uint64_t full_scale, uint64_t black_level,
+                           uint64_t bayer_order,
+                           const uint8_t *mask, size_t mask_len,
+                           const uint16_t *frame, size_t frame_len,
+                           uint64_t *place,
+                           int64_t *r_numerator, uint64_t *r_denominator,
+                           int64_t *b_numerator, uint64_t *b_denominator,
+                           int64_t *gb_numerator, uint64_t *gb_denominator);
+
 #ifdef __cplusplus
 }
 #endif

@@ -186,6 +186,242 @@ static void pair(void)
     check("tip_pair_noise", "refused 7", has_noise(one_surveyed, 1023, k1_first, k1_second, 7, 0, 0, 0, 0.0));
 }
 
+/* ---- tip_dark_level ---- */
+
+static int has_dark_level(uint64_t black_level, const uint8_t mask[4], const uint16_t frame[4],
+                          uint64_t number, uint64_t place, int64_t numerator, uint64_t denominator)
+{
+    uint64_t at = UNWRITTEN, got_denominator = UNWRITTEN;
+    int64_t got_numerator = UNWRITTEN;
+    return tip_dark_level(2, 2, 1023, black_level, mask, 4, frame, 4, &at, &got_numerator, &got_denominator) == number
+        && at == place && got_numerator == numerator && got_denominator == denominator;
+}
+
+static void dark_level(void)
+{
+    static const uint16_t k5[4] = {60, 64, 64, 64}, over[4] = {60, 1024, 64, 64};
+    static const uint8_t none_surveyed[4] = {1, 2, 3, 1};
+
+    check("tip_dark_level", "K5", has_dark_level(64, all_surveyed, k5, 0, 0, -4, 4));
+    check("tip_dark_level", "K1's first frame", has_dark_level(64, all_surveyed, k1_first, 0, 0, 150, 4));
+    check("tip_dark_level", "refused 3", has_dark_level(1024, all_surveyed, k5, 3, 0, 0, 0));
+    check("tip_dark_level", "refused 6 at 1", has_dark_level(64, all_surveyed, over, 6, 1, 0, 0));
+    check("tip_dark_level", "refused 7", has_dark_level(64, none_surveyed, k5, 7, 0, 0, 0));
+}
+
+/* ---- tip_stack_add, tip_stack_variance ---- */
+
+static uint32_t stack_sums[4], stack_squares[4];
+
+static int adds(uint64_t frames, const uint8_t mask[4], const uint16_t frame[4], uint64_t number, uint64_t count)
+{
+    uint64_t at = UNWRITTEN, got = UNWRITTEN;
+    return tip_stack_add(2, 2, 1023, frames, mask, 4, frame, 4, stack_sums, 4, stack_squares, 4, &at, &got) == number
+        && at == 0 && got == count;
+}
+
+static int stack_holds(const uint32_t sums[4], const uint32_t squares[4])
+{
+    for (size_t i = 0; i < 4; i++)
+        if (stack_sums[i] != sums[i] || stack_squares[i] != squares[i]) return 0;
+    return 1;
+}
+
+static int has_stack_variance(uint64_t frames, uint64_t number, uint64_t numerator, uint64_t denominator, double variance)
+{
+    uint64_t at = UNWRITTEN, got_numerator = UNWRITTEN, got_denominator = UNWRITTEN;
+    double got = UNWRITTEN;
+    return tip_stack_variance(2, 2, 1023, frames, all_surveyed, 4, stack_sums, 4, stack_squares, 4,
+                              &at, &got_numerator, &got_denominator, &got) == number
+        && at == 0 && got_numerator == numerator && got_denominator == denominator && bits(got) == bits(variance);
+}
+
+static void stack(void)
+{
+    static const uint32_t first_sums[4] = {100, 101, 102, 103}, first_squares[4] = {10000, 10201, 10404, 10609};
+    static const uint32_t both_sums[4] = {201, 202, 204, 207}, both_squares[4] = {20201, 20402, 20808, 21425};
+
+    check("tip_stack_add", "the first frame", adds(0, all_surveyed, k1_first, 0, 1) && stack_holds(first_sums, first_squares));
+    check("tip_stack_add", "the second", adds(1, all_surveyed, k1_second, 0, 2) && stack_holds(both_sums, both_squares));
+    check("tip_stack_add", "refused 3 at 101", adds(101, all_surveyed, k1_first, 3, 0) && stack_holds(both_sums, both_squares));
+    check("tip_stack_add", "refused 11 with no frame in", adds(0, all_surveyed, k1_first, 11, 0) && stack_holds(both_sums, both_squares));
+    check("tip_stack_add", "refused 12 at 100", adds(100, all_surveyed, k1_first, 12, 0) && stack_holds(both_sums, both_squares));
+    check("tip_stack_variance", "two frames", has_stack_variance(2, 0, 2, 16, 0.125));
+    check("tip_stack_variance", "refused 3", has_stack_variance(0, 3, 0, 0, 0.0));
+    check("tip_stack_variance", "refused 7", has_stack_variance(1, 7, 0, 0, 0.0));
+}
+
+/* ---- tip_pattern_vertical, tip_pattern_horizontal ---- */
+
+typedef uint64_t (*pattern_call)(size_t, size_t, uint64_t, uint64_t, const uint8_t *, size_t, const uint32_t *, size_t,
+                                 uint64_t *, uint64_t *, uint64_t *, int64_t *, uint64_t *);
+
+static int has_pattern(pattern_call call, size_t width, size_t height, const uint8_t *mask, const uint32_t *sums, uint64_t number,
+                       uint64_t level, uint64_t level_under, int64_t max, uint64_t max_under)
+{
+    uint64_t at = UNWRITTEN, got_level = UNWRITTEN, got_level_under = UNWRITTEN, got_max_under = UNWRITTEN;
+    int64_t got_max = UNWRITTEN;
+    size_t sites = width * height;
+    return call(width, height, 1023, 1, mask, sites, sums, sites, &at, &got_level, &got_level_under, &got_max, &got_max_under) == number
+        && at == 0 && got_level == level && got_level_under == level_under && got_max == max && got_max_under == max_under;
+}
+
+static void pattern(void)
+{
+    static const uint8_t surveyed[24];
+    static uint8_t gap[24];
+    static uint32_t columns[24], rows[24], dark[24];
+
+    gap[23] = 1;
+    for (size_t i = 0; i < 24; i++) {
+        columns[i] = i % 12 == 6 ? 110 : 100;
+        rows[i] = i / 2 == 6 ? 110 : 100;
+        dark[i] = i % 12 == 5 || i % 12 == 6 ? 0 : 100;
+    }
+    check("tip_pattern_vertical", "K8", has_pattern(tip_pattern_vertical, 12, 2, surveyed, columns, 0, 800, 46047276, 200, 20460));
+    check("tip_pattern_vertical", "a negative max", has_pattern(tip_pattern_vertical, 12, 2, surveyed, dark, 0, 80000, 46047276, -1800, 20460));
+    check("tip_pattern_vertical", "refused 8", has_pattern(tip_pattern_vertical, 12, 2, gap, columns, 8, 0, 0, 0, 0));
+    check("tip_pattern_vertical", "refused 9", has_pattern(tip_pattern_vertical, 2, 12, surveyed, rows, 9, 0, 0, 0, 0));
+    check("tip_pattern_horizontal", "K8 on its side", has_pattern(tip_pattern_horizontal, 2, 12, surveyed, rows, 0, 800, 46047276, 200, 20460));
+    check("tip_pattern_horizontal", "refused 9", has_pattern(tip_pattern_horizontal, 12, 2, surveyed, columns, 9, 0, 0, 0, 0));
+    rows[0] = 1024;
+    check("tip_pattern_horizontal", "refused 11", has_pattern(tip_pattern_horizontal, 2, 12, surveyed, rows, 11, 0, 0, 0, 0));
+}
+
+/* ---- tip_find_defects, tip_repair ---- */
+
+/* 4 x 4, all 64 but the site at 5. */
+static void lone_site(uint16_t frame[16], uint16_t sample)
+{
+    for (size_t i = 0; i < 16; i++) frame[i] = 64;
+    frame[5] = sample;
+}
+
+/* Whether the codes of out are those of mask, but for code at `at`; 16 is nowhere. */
+static int codes_are(const uint8_t out[16], const uint8_t mask[16], size_t at, uint8_t code)
+{
+    for (size_t i = 0; i < 16; i++)
+        if (out[i] != (i == at ? code : mask[i])) return 0;
+    return 1;
+}
+
+static int finds(uint64_t threshold, uint16_t sample, uint64_t number, uint64_t count, size_t found)
+{
+    static const uint8_t mask[16], kept[16] = {9, 9, 9, 9, 9, 9, 9, 9, 9, 9, 9, 9, 9, 9, 9, 9};
+    uint8_t out[16];
+    uint16_t frame[16];
+    uint64_t at = UNWRITTEN, got = UNWRITTEN;
+    lone_site(frame, sample);
+    for (size_t i = 0; i < 16; i++) out[i] = kept[i];
+    return tip_find_defects(4, 4, 1023, threshold, mask, 16, frame, 16, out, 16, &at, &got) == number
+        && at == (number == 6 ? 5 : 0) && got == count && codes_are(out, number ? kept : mask, found, 2);
+}
+
+/* The defect at 5 beside neighbours 60 and 65 that are surveyed and gaps that hold 65535. */
+static int repairs(void)
+{
+    static const uint8_t mask[16] = {1, 1, 1, 1, 1, 2, 1, 0, 1, 1, 1, 1, 1, 0, 1, 1};
+    uint8_t out_mask[16];
+    uint16_t frame[16], out[16];
+    uint64_t at = UNWRITTEN, filled = UNWRITTEN;
+    for (size_t i = 0; i < 16; i++) frame[i] = 65535;
+    frame[7] = 60;
+    frame[13] = 65;
+    if (tip_repair(4, 4, 1023, mask, 16, frame, 16, out, 16, out_mask, 16, &at, &filled) != 0 || at != 0 || filled != 1) return 0;
+    for (size_t i = 0; i < 16; i++)
+        if (out[i] != (i == 5 ? 63 : frame[i])) return 0;
+    return codes_are(out_mask, mask, 5, 3);
+}
+
+static void sites(void)
+{
+    check("tip_find_defects", "K6", finds(28, 102, 0, 1, 5));
+    check("tip_find_defects", "K7", finds(28, 101, 0, 0, 16));
+    check("tip_find_defects", "the default threshold", finds(0, 102, 0, 1, 5) && finds(0, 101, 0, 0, 16));
+    check("tip_find_defects", "refused 3", finds(4096, 102, 3, 0, 16));
+    check("tip_find_defects", "refused 6 at 5", finds(28, 1024, 6, 0, 16));
+    check("tip_repair", "the mean of 60 and 65, half rounded up", repairs());
+}
+
+/* ---- tip_defective_rows, tip_defective_columns ---- */
+
+typedef uint64_t (*lines_call)(size_t, size_t, uint64_t, const uint8_t *, size_t, const uint16_t *, size_t, uint8_t *, size_t, uint64_t *);
+
+/* All 100 but the site `at`, in a window with one side of 2; `marked` is the one mark, 36 where there is none. */
+static int marks(lines_call call, size_t width, size_t height, size_t at, uint16_t sample, size_t marked)
+{
+    static const uint8_t mask[36];
+    uint16_t frame[36];
+    uint8_t out[36];
+    uint64_t place = UNWRITTEN;
+    for (size_t i = 0; i < 36; i++) {
+        frame[i] = i == at ? sample : 100;
+        out[i] = 9;
+    }
+    if (call(width, height, 1023, mask, 36, frame, 36, out, 36, &place) != 0 || place != 0) return 0;
+    for (size_t i = 0; i < 36; i++)
+        if (out[i] != (i == marked)) return 0;
+    return 1;
+}
+
+static int refuses_lines(lines_call call, size_t width, size_t height, size_t marks_len, uint64_t number)
+{
+    static const uint8_t mask[36];
+    static const uint16_t frame[36];
+    uint8_t out[36];
+    uint64_t place = UNWRITTEN;
+    for (size_t i = 0; i < 36; i++) out[i] = 9;
+    if (call(width, height, 1023, mask, width * height, frame, width * height, out, marks_len, &place) != number || place != 0) return 0;
+    for (size_t i = 0; i < 36; i++)
+        if (out[i] != 9) return 0;
+    return 1;
+}
+
+static void lines(void)
+{
+    check("tip_defective_rows", "K9", marks(tip_defective_rows, 2, 18, 16, 103, 4));
+    check("tip_defective_rows", "K10", marks(tip_defective_rows, 2, 18, 16, 102, 36));
+    check("tip_defective_rows", "planes in turn", marks(tip_defective_rows, 2, 18, 17, 103, 13) && marks(tip_defective_rows, 2, 18, 18, 103, 22));
+    check("tip_defective_rows", "refused 4", refuses_lines(tip_defective_rows, 2, 16, 31, 4));
+    check("tip_defective_rows", "refused 9", refuses_lines(tip_defective_rows, 2, 16, 32, 9));
+    check("tip_defective_columns", "K9 on its side", marks(tip_defective_columns, 18, 2, 8, 103, 4));
+    check("tip_defective_columns", "refused 9", refuses_lines(tip_defective_columns, 16, 2, 32, 9));
+}
+
+/* ---- tip_colour_ratios ---- */
+
+/* 64 x 48, each plane of one level: 100, 200, 300, 400 for the planes (0,0), (0,1), (1,0), (1,1). */
+static uint16_t plane_level(size_t i) { return (uint16_t)(100 * (1 + i % 64 % 2 + 2 * (i / 64 % 2))); }
+
+static int has_ratios(size_t width, uint64_t black_level, uint64_t order, uint64_t number, const int64_t over[3], const uint64_t under[3])
+{
+    static const uint8_t mask[64 * 48];
+    static uint16_t frame[64 * 48];
+    uint64_t at = UNWRITTEN, got_under[3] = {UNWRITTEN, UNWRITTEN, UNWRITTEN};
+    int64_t got_over[3] = {UNWRITTEN, UNWRITTEN, UNWRITTEN};
+    for (size_t i = 0; i < 64 * 48; i++) frame[i] = plane_level(i);
+    if (tip_colour_ratios(width, 48, 1023, black_level, order, mask, width * 48, frame, width * 48, &at, &got_over[0], &got_under[0],
+                          &got_over[1], &got_under[1], &got_over[2], &got_under[2]) != number || at != 0) return 0;
+    for (size_t i = 0; i < 3; i++)
+        if (got_over[i] != over[i] || got_under[i] != under[i]) return 0;
+    return 1;
+}
+
+static void colour_ratios(void)
+{
+    /* 768 sites in a centre: T(X) x 768 over T(Gr) x 768, R, B, Gb in turn. */
+    static const int64_t none[3], order_0[3] = {50LL * 768 * 768, 350LL * 768 * 768, 250LL * 768 * 768};
+    static const uint64_t zero[3], under_0[3] = {150ULL * 768 * 768, 150ULL * 768 * 768, 150ULL * 768 * 768};
+    static const int64_t order_1[3] = {150LL * 768 * 768, 250LL * 768 * 768, 350LL * 768 * 768};
+    static const uint64_t under_1[3] = {50ULL * 768 * 768, 50ULL * 768 * 768, 50ULL * 768 * 768};
+
+    check("tip_colour_ratios", "order 0", has_ratios(64, 50, 0, 0, order_0, under_0));
+    check("tip_colour_ratios", "order 1", has_ratios(64, 50, 1, 0, order_1, under_1));
+    check("tip_colour_ratios", "refused 3", has_ratios(64, 50, 4, 3, none, zero));
+    check("tip_colour_ratios", "refused 9", has_ratios(62, 50, 0, 9, none, zero));
+    check("tip_colour_ratios", "refused 10", has_ratios(64, 200, 0, 10, none, zero));
+}
+
 /* ---- all calls ---- */
 
 int main(void)
@@ -193,6 +429,12 @@ int main(void)
     static void (*const calls[])(void) = {
         unpack_raw10,
         pair,
+        dark_level,
+        stack,
+        pattern,
+        sites,
+        lines,
+        colour_ratios,
     };
 
     for (size_t i = 0; i < COUNT(calls); i++) calls[i]();

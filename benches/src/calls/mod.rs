@@ -1,6 +1,12 @@
 //! One file for each call: how the library is called, and the same work in plain Rust.
 
+mod colour;
+mod dark;
+mod lines;
 mod pair;
+mod pattern;
+mod sites;
+mod stack;
 mod unpack_raw10;
 mod window;
 
@@ -11,5 +17,15 @@ pub fn all() -> Vec<Box<dyn Contested>> {
         Box::new(unpack_raw10::contest()),
         Box::new(pair::variance()),
         Box::new(pair::noise()),
+        Box::new(dark::contest()),
+        Box::new(stack::add()),
+        Box::new(stack::variance()),
+        Box::new(pattern::vertical()),
+        Box::new(pattern::horizontal()),
+        Box::new(sites::find_defects()),
+        Box::new(sites::repair()),
+        Box::new(lines::rows()),
+        Box::new(lines::columns()),
+        Box::new(colour::contest()),
     ]
 }

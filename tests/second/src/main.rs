@@ -17,10 +17,7 @@ struct Options {
 }
 
 fn options() -> Result<Options, String> {
-    let mut options = Options {
-        seed: 1,
-        rounds: 10,
-    };
+    let mut options = Options { seed: 1, rounds: 5 };
     let mut words = env::args().skip(1);
     while let Some(word) = words.next() {
         let number = words.next().and_then(|text| text.parse().ok());

@@ -1,10 +1,17 @@
 //! Seeded cases, one maker a call.
 
+mod colour;
+mod dark;
 mod dice;
+mod lines;
 mod pair;
+mod pattern;
 mod raw;
 mod shapes;
+mod sites;
 mod spoil;
+mod stack;
+mod stacks;
 mod tally;
 mod windows;
 
@@ -34,5 +41,56 @@ pub const CALLS: &[Call] = &[
         name: "pair_noise",
         required: &[0, 1, 2, 4, 5, 6, 7],
         round: pair::pair_noise,
+    },
+    Call {
+        name: "dark_level",
+        required: &[0, 1, 2, 3, 4, 5, 6, 7],
+        round: dark::dark_level,
+    },
+    Call {
+        name: "stack_add",
+        required: &[0, 1, 2, 3, 4, 5, 6, 11, 12],
+        round: stack::stack_add,
+    },
+    // 14 cannot be reached: 11 keeps the numerator at most n x (k x full scale)^2, below 2^53.
+    Call {
+        name: "stack_variance",
+        required: &[0, 1, 2, 3, 4, 5, 7, 11],
+        round: stack::stack_variance,
+    },
+    Call {
+        name: "pattern_vertical",
+        required: &[0, 1, 2, 3, 4, 5, 8, 9, 11],
+        round: pattern::pattern_vertical,
+    },
+    Call {
+        name: "pattern_horizontal",
+        required: &[0, 1, 2, 3, 4, 5, 8, 9, 11],
+        round: pattern::pattern_horizontal,
+    },
+    Call {
+        name: "find_defects",
+        required: &[0, 1, 2, 3, 4, 5, 6],
+        round: sites::find_defects,
+    },
+    Call {
+        name: "repair",
+        required: &[0, 1, 2, 4, 5, 6],
+        round: sites::repair,
+    },
+    Call {
+        name: "defective_rows",
+        required: &[0, 1, 2, 4, 5, 6, 9],
+        round: lines::defective_rows,
+    },
+    Call {
+        name: "defective_columns",
+        required: &[0, 1, 2, 4, 5, 6, 9],
+        round: lines::defective_columns,
+    },
+    Call {
+        name: "colour_ratios",
+        required: &[0, 1, 2, 3, 4, 5, 6, 7, 9, 10],
+        round: colour::colour_ratios,
     },
 ];

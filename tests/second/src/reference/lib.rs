@@ -1,7 +1,13 @@
 //! The reference: document 01 in plain loops over wide integers.
 //! Each call takes the lent buffers, changes those it writes, and gives its answer.
 
+pub mod colour;
+pub mod dark;
 pub mod float;
+pub mod lines;
 pub mod pair;
+pub mod pattern;
 pub mod raw;
 pub mod shared;
+pub mod sites;
+pub mod stack;

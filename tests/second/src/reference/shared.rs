@@ -89,6 +89,34 @@ pub fn check_samples(mask: &[u8], frame: &[u16], full_scale: u64) -> Result<(), 
     Ok(())
 }
 
+/// What every call on one frame is lent.
+#[derive(Clone, Copy)]
+pub struct Window<'a> {
+    pub width: usize,
+    pub height: usize,
+    pub full_scale: u64,
+    pub mask: &'a [u8],
+    pub frame: &'a [u16],
+}
+
+impl Window<'_> {
+    /// Refusals 1 and 2; the count of sites.
+    pub fn check_scale(&self) -> Result<usize, Refusal> {
+        let sites = sites_of(self.width, self.height)?;
+        check_full_scale(self.full_scale)?;
+        Ok(sites)
+    }
+
+    /// Refusals 4, 5 and 6, `others` being the lengths of the call's other buffers.
+    pub fn check_contents(&self, others: &[(usize, usize)]) -> Result<(), Refusal> {
+        let sites = self.width * self.height;
+        check_lengths(&[(self.mask.len(), sites), (self.frame.len(), sites)])?;
+        check_lengths(others)?;
+        check_codes(self.mask)?;
+        check_samples(self.mask, self.frame, self.full_scale)
+    }
+}
+
 /// The sites of code 0, in row order.
 pub fn surveyed(mask: &[u8]) -> impl Iterator<Item = usize> + '_ {
     (0..mask.len()).filter(|&site| mask[site] == 0)

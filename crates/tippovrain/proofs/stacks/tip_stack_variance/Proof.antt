@@ -1,0 +1,38 @@
+-- `tip_stack_variance` is right because it hands out the paper's numbers of the answer, each in its place.
+use mathlib.Core.Path.{sym, ap, _∙_}
+use borrow.Author.Needs.{needs}
+use Rattle.stack.specs.Variance.{VarianceNumbers, variancePaperOf}
+use Rattle.tippovrain.proofs.stacks.tip_stack_variance.Statement.{statement}
+use Rattle.tippovrain.proofs.stacks.tip_stack_variance.Tie as tie
+
+stack-variance-requires : tie.Need-stack-variance-requires
+stack-variance-requires c κs = search needs
+
+enum-known-over : tie.Need-enum-known-over
+enum-known-over c = search needs
+
+enum-known-refusal : tie.Need-enum-known-refusal
+enum-known-refusal c = search needs
+
+returns : tie.Need-returns
+returns c = let e = sym (ap variancePaperOf (c .before .over .given .1)) ∙ c .before .before .before .stack-variance .ensures .1 in (
+  ap (λ (p : VarianceNumbers). p .number) e,
+  (
+    ap (λ (p : VarianceNumbers). p .place) e,
+    (ap (λ (p : VarianceNumbers). p .numerator) e, (ap (λ (p : VarianceNumbers). p .denominator) e, ap (λ (p : VarianceNumbers). p .variance) e)),
+  ),
+)
+
+returns-2 : tie.Need-returns-2
+returns-2 c = let e = sym (ap variancePaperOf (c .before .refusal .given .1)) ∙ c .before .before .before .stack-variance .ensures .1 in (
+  ap (λ (p : VarianceNumbers). p .number) e,
+  (
+    ap (λ (p : VarianceNumbers). p .place) e,
+    (ap (λ (p : VarianceNumbers). p .numerator) e, (ap (λ (p : VarianceNumbers). p .denominator) e, ap (λ (p : VarianceNumbers). p .variance) e)),
+  ),
+)
+
+pub tip-stack-variance-spec : {M : Type 1} → statement M
+tip-stack-variance-spec =
+    tie.close
+    (tie.spec stack-variance-requires enum-known-over enum-known-refusal returns returns-2)
