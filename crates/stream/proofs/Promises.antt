@@ -1,0 +1,153 @@
+-- What is promised of `job`, for any input.
+use Prim.Native.Nat.{ℕ, _+_, _*_, _/_, _<_, _≤_}
+use mathlib.Core.List.{List, _∷_, _++_}
+use mathlib.Core.Path.{_≡_, refl, sym, ap, _∙_}
+use native.Mathlib.Omega.{arith}
+use lib.IntN.{ℤ, pos}
+use lib.ListN.{length, take, length-take, length-drop}
+use lib.Seq.{take-all}
+use Rattle.laws.proofs.Tables.{length-tabulate}
+use Rattle.window.specs.Verdict.{refusal, _⨟_}
+use Rattle.window.specs.declared.Verdict.{Verdict}
+use Rattle.window.specs.declared.Verdict.the-variants as verdict
+use Rattle.window.proofs.Verdicts.{Tabled, Refuses, refuses, inTurn, tabled, tabled-then, then-same, then-clear}
+use Rattle.window.proofs.Views.{Agree}
+use Rattle.raw.specs.Packed.{sampleAt}
+use Rattle.raw.specs.Unpack.{unpackBuffer}
+use Rattle.pair.specs.Pair.{spreadOf, pairVerdict}
+use Rattle.pair.specs.Answers.{noisePaper}
+use Rattle.pair.proofs.Promises as pair
+use Rattle.dark.specs.Dark.{darkVerdict, darkPaper}
+use Rattle.dark.proofs.Promises as dark
+use Rattle.stream.specs.Fields.{bodyAt}
+use Rattle.stream.specs.Stream.{widthOf, heightOf, fullOf, blackOf, sitesIn, packedIn, firstField, secondField, unpacked, maskOf, firstOf, secondOf, streamVerdict}
+use Rattle.stream.specs.Job.{jobVerdict, varianceIn, noiseIn, darkIn, answered, jobAnswer, jobPaper, directly}
+use Rattle.stream.specs.declared.Answer.{Answer}
+use Rattle.stream.specs.declared.Answer.the-variants.{Figures, Refused}
+use Rattle.stream.proofs.Streams.{Faultless, faultless}
+use Rattle.stream.proofs.Frames.{left, unpacks}
+use Rattle.stream.proofs.Answers.{together-same, fault-is, calls-are, work-is}
+use Rattle.stream.proofs.Tables.{fieldsTests, streamTests, scaleTest, leftTests, stream-table, left-is}
+use Rattle.stream.proofs.Cuts.{faults-seen, word-seen, cutField, stream-cut}
+
+-- a field's body is all there
+body-long : (s : List ℕ) (at n : ℕ) → at + 3 + n ≤ length s → length (bodyAt s at n) ≡ n
+body-long s at n l = simp (length-take, length-drop) (omega arith)
+
+module _ (s : List ℕ) where
+  -- only: no second answer meets the promise
+  pub only : (a b : Answer) → a ≡ jobAnswer s → b ≡ jobAnswer s → a ≡ b
+  only a b p q = p ∙ sym q
+
+  -- given: the faults of each field as they are met, 1 and 24 after field 2, 23; then what is left of the library's refusals, in its order
+  pub given : Tabled (jobVerdict s)
+      (streamTests s (widthOf s) (heightOf s)
+      ++ (scaleTest (fullOf s) ∷ leftTests (widthOf s) (heightOf s) (fullOf s) (blackOf s) (maskOf s) (firstOf s) (secondOf s)))
+  unfolding jobVerdict
+  given =
+      rw (then-same (streamVerdict s) (λ clear. library clear))
+      (tabled-then (stream-table s (widthOf s) (heightOf s)) (tabled (scaleTest (fullOf s)) (leftTests (widthOf s) (heightOf s) (fullOf s) (blackOf s) (maskOf s) (firstOf s) (secondOf s))))
+    where
+      library : streamVerdict s ≡ verdict.Clear
+          → pairVerdict (widthOf s) (heightOf s) (fullOf s) (maskOf s) (firstOf s) (secondOf s)
+          ⨟ darkVerdict (widthOf s) (heightOf s) (fullOf s) (blackOf s) (maskOf s) (firstOf s)
+          ≡ inTurn (scaleTest (fullOf s)) (leftTests (widthOf s) (heightOf s) (fullOf s) (blackOf s) (maskOf s) (firstOf s) (secondOf s))
+      library clear =
+          let x = faultless s (widthOf s) (heightOf s) clear in
+          left-is (widthOf s) (heightOf s) (fullOf s) (blackOf s) (maskOf s) (firstOf s) (secondOf s) (x .even)
+          (body-long s 20 (sitesIn s) (omega (arith, x .long)))
+          (length-tabulate (sitesIn s) (sampleAt 2 4 (bodyAt s (firstField (sitesIn s)) (packedIn s))))
+          (length-tabulate (sitesIn s) (sampleAt 2 4 (bodyAt s (secondField (sitesIn s)) (packedIn s))))
+
+  -- refused: where the number is not 0 every other number but the place is 0, and where it is 0 so is the place
+  pub refused : Refuses (jobPaper s .number) (jobPaper s .place)
+      ((jobPaper s .sites ≡ 0) × (jobPaper s .p ≡ 0) × (jobPaper s .q ≡ 0) × (jobPaper s .r ≡ 0) × (jobPaper s .rOver ≡ 0) × (jobPaper s .dark ≡ pos 0) × (jobPaper s .darkOver ≡ 0))
+  unfolding jobPaper fieldsTests
+  refused = refuses (jobVerdict s) given refl (λ r e. rw e (refl, refl, refl, refl, refl, refl, refl))
+
+  -- the noise is over 64 × sites and the dark level over sites, so the other numbers tell all that is printed
+  pub over : (jobPaper s .rOver ≡ 64 * jobPaper s .sites) × (jobPaper s .darkOver ≡ jobPaper s .sites)
+  unfolding jobPaper jobVerdict noisePaper darkPaper spreadOf
+  over = by (jobVerdict s) refl
+    where
+      by : (v : Verdict) → jobVerdict s ≡ v → (jobPaper s .rOver ≡ 64 * jobPaper s .sites) × (jobPaper s .darkOver ≡ jobPaper s .sites)
+      by verdict.Clear e =
+          let judged = then-clear (streamVerdict s) _ e in
+          let calls = then-clear _ _ (judged .1) in
+          rw (e, calls .0, calls .1) (refl, refl)
+      by (verdict.Refused r) e = rw e (refl, refl)
+
+  -- a stream that is answered with figures has no fault
+  pub accepted : (n p q r over : ℕ) (level : ℤ) (under : ℕ) → jobAnswer s ≡ Figures n p q r over level under → streamVerdict s ≡ verdict.Clear
+  unfolding jobAnswer jobVerdict
+  accepted n p q r over level under e = then-clear (streamVerdict s) _ (by (jobVerdict s) e) .0
+    where
+      by : (v : Verdict) → answered v (varianceIn s) (noiseIn s) (darkIn s) ≡ Figures n p q r over level under → v ≡ verdict.Clear
+      by verdict.Clear f = refl
+      by (verdict.Refused t) f = let z : _≡_ {A = ℕ} 0 1 = cc in absurd (omega arith)
+
+  -- ---- of a stream without a fault: its sides are legal and at most 64 (`Faultless`)
+  module _ (clear : streamVerdict s ≡ verdict.Clear) where
+    abbrev whole : Faultless s (widthOf s) (heightOf s)
+    whole = faultless s (widthOf s) (heightOf s) clear
+
+    -- it has exactly one length for its sides
+    pub one-length : length s ≡ 32 + heightOf s * widthOf s + 2 * (heightOf s * widthOf s * 5 / 4)
+    one-length = rw (← whole .sides .legal .sites) (whole .long)
+
+    -- at most 14,368 bytes
+    pub longest : length s ≤ 14368
+    longest = omega (arith, whole .long, whole .sides .few)
+
+    frame : (at : ℕ) (out : List ℕ) → length out ≡ sitesIn s → at + 3 + packedIn s ≤ length s
+        → unpackBuffer (widthOf s) (heightOf s) (bodyAt s at (packedIn s)) out ≡ unpacked (sitesIn s) (bodyAt s at (packedIn s))
+    frame at out e l =
+        left (widthOf s) (heightOf s) (bodyAt s at (packedIn s)) out (unpacks (widthOf s) (heightOf s) _ (whole .even) (body-long s at (packedIn s) l)) e
+
+    -- the answer is that of the library's calls on the two frames that `unpack_raw10` leaves in any buffers of the window's length
+    pub direct : (one two : List ℕ) → length one ≡ sitesIn s → length two ≡ sitesIn s
+        → jobAnswer s
+        ≡ directly (widthOf s) (heightOf s) (fullOf s) (blackOf s) (maskOf s)
+        (unpackBuffer (widthOf s) (heightOf s) (bodyAt s (firstField (sitesIn s)) (packedIn s)) one)
+        (unpackBuffer (widthOf s) (heightOf s) (bodyAt s (secondField (sitesIn s)) (packedIn s)) two)
+    direct one two p q =
+        sym (work-is s clear refl refl refl refl refl
+        (frame (firstField (sitesIn s)) one p (omega (arith, whole .long)))
+        (frame (secondField (sitesIn s)) two q (omega (arith, whole .long))))
+
+    -- cut anywhere before its end, it is refused: 20, at the field that was cut
+    pub cut : (k : ℕ) → k < length s → jobAnswer (take k s) ≡ Refused (refusal 20 (cutField s k))
+    cut k l = sym (fault-is (take k s) (stream-cut s k clear l))
+
+-- the first 14,369 bytes decide the answer
+pub decided : (s : List ℕ) → jobAnswer (take 14369 s) ≡ jobAnswer s
+decided s = by (streamVerdict s) refl
+  where
+    seen : streamVerdict (take 14369 s) ≡ streamVerdict s
+    seen = rw (word-seen 14369 s 3 (omega arith), word-seen 14369 s 8 (omega arith)) (faults-seen 14369 s (widthOf s) (heightOf s) (omega arith))
+
+    by : (v : Verdict) → streamVerdict s ≡ v → jobAnswer (take 14369 s) ≡ jobAnswer s
+    by verdict.Clear e = ap jobAnswer (take-all 14369 s (omega (arith, longest s e)))
+    by (verdict.Refused r) e = sym (fault-is (take 14369 s) (seen ∙ e)) ∙ fault-is s e
+
+-- whatever follows them
+pub same-start : (s t : List ℕ) → take 14369 s ≡ take 14369 t → jobAnswer s ≡ jobAnswer t
+same-start s t e = sym (decided s) ∙ ap jobAnswer e ∙ decided t
+
+-- two streams of one window, full scale, black level and mask, whose frames agree at the surveyed sites
+pub record Alike (s t : List ℕ) : Type 0 where
+  pub wide : widthOf s ≡ widthOf t
+  pub high : heightOf s ≡ heightOf t
+  pub full : fullOf s ≡ fullOf t
+  pub black : blackOf s ≡ blackOf t
+  pub mask : maskOf s ≡ maskOf t
+  pub first : Agree (maskOf s) (firstOf s) (firstOf t)
+  pub second : Agree (maskOf s) (secondOf s) (secondOf t)
+
+-- blind: what a stream's frames hold at unsurveyed sites changes nothing
+pub blind : (s t : List ℕ) → Alike s t → streamVerdict s ≡ verdict.Clear → streamVerdict t ≡ verdict.Clear → jobAnswer s ≡ jobAnswer t
+blind s t a clear clear′ =
+    let pairs = pair.blind (widthOf s) (heightOf s) (fullOf s) (a .first) (a .second) in
+    sym (calls-are s clear)
+    ∙ together-same (pairs .0) (pairs .1) (dark.blind (widthOf s) (heightOf s) (fullOf s) (blackOf s) (maskOf s) (firstOf s) (firstOf t) (a .first))
+    ∙ work-is t clear′ (a .wide) (a .high) (a .full) (a .black) (a .mask) refl refl

@@ -1,0 +1,122 @@
+-- The tests of a job as one table: those of its fields, and of the library's only those that a stream without a fault leaves.
+use Prim.Native.Nat.{ℕ, _+_}
+use mathlib.Core.Bool.{Bool, false}
+use mathlib.Core.List.{List, [], _∷_, _++_}
+use mathlib.Core.Path.{_≡_, refl, sym, _∙_}
+use native.Mathlib.Omega.{arith}
+use lib.Dec.{ltb, eqb}
+use lib.ListN.{length, getD}
+use borrow.Author.Tests.{eq-eqb, ne-eqb, ltb-false}
+use Rattle.laws.specs.Sum.{sumTo}
+use Rattle.window.specs.Shape.{badSides, badScale, sitesOf}
+use Rattle.window.specs.View.{badCode, above, seen, one}
+use Rattle.window.specs.Verdict.{_⨟_, refuseIf, refuseFirst}
+use Rattle.window.specs.Judge.{shapeOf, otherThan, codesOf, samplesOf}
+use Rattle.window.specs.declared.Verdict.{Verdict}
+use Rattle.window.specs.declared.Verdict.the-variants.{Clear}
+use Rattle.window.proofs.Verdicts.{Test, Tabled, test, testFirst, inTurn, tabled, tabled-none, tabled-then, skipped, then-assoc, then-same, then-clear, then-end, unless}
+use Rattle.pair.specs.Pair.{spreadOf, pairSpread, framesOf, pairVerdict}
+use Rattle.pair.proofs.Promises.{spare}
+use Rattle.dark.specs.Dark.{darkVerdict}
+use Rattle.stream.specs.Fields.{Field, past, wordAt, fieldAt, fieldsAt, pastAll}
+use Rattle.stream.specs.Stream.{sideFields, bodyFields, wideSides, faultsOf}
+
+-- ---- the stream's
+module _ (s : List ℕ) where
+  -- of a field: the input ends before it; another tag; the input ends inside its length; another length; the input ends inside its body
+  abbrev pub fieldTests : ℕ → Field → List Test
+  fieldTests at f =
+      test 20 at (ltb (length s) (at + 1))
+      ∷ test 21 at (otherThan (f .tag) (getD s at 0))
+      ∷ test 20 at (ltb (length s) (at + 3))
+      ∷ test 22 at (otherThan (f .long) (wordAt s (at + 1)))
+      ∷ test 20 at (ltb (length s) (past at f))
+      ∷ []
+
+  pub field-table : (at : ℕ) (f : Field) → Tabled (fieldAt s at f) (fieldTests at f)
+  unfolding fieldAt
+  field-table at f = tabled _ _
+
+  unfoldable pub fieldsTests : ℕ → List Field → List Test
+  fieldsTests at [] = []
+  fieldsTests at (f ∷ fs) = fieldTests at f ++ fieldsTests (past at f) fs
+
+  pub fields-table : (at : ℕ) (fs : List Field) → Tabled (fieldsAt s at fs) (fieldsTests at fs)
+  unfolding fieldsAt fieldsTests
+  fields-table at [] = tabled-none
+  fields-table at (f ∷ fs) = tabled-then (field-table at f) (fields-table (past at f) fs)
+
+  module _ (w h : ℕ) where
+    abbrev pub streamTests : List Test
+    streamTests =
+        fieldsTests 0 sideFields
+        ++ (test 1 0 (badSides w h)
+        ∷ test 24 0 (wideSides w h)
+        ∷ (fieldsTests 10 (bodyFields (sitesOf w h))
+        ++ (test 23 (pastAll 10 (bodyFields (sitesOf w h))) (ltb (pastAll 10 (bodyFields (sitesOf w h))) (length s)) ∷ [])))
+
+    pub stream-table : Tabled (faultsOf s w h) streamTests
+    unfolding faultsOf
+    stream-table =
+        tabled-then (fields-table 0 sideFields)
+        (tabled-then (tabled (test 1 0 (badSides w h)) [])
+        (tabled-then (tabled (test 24 0 (wideSides w h)) [])
+        (tabled-then (fields-table 10 (bodyFields (sitesOf w h)))
+        (tabled (test 23 (pastAll 10 (bodyFields (sitesOf w h))) (ltb (pastAll 10 (bodyFields (sitesOf w h))) (length s))) []))))
+
+clear-then : (v : Verdict) → Clear ⨟ v ≡ v
+unfolding _⨟_
+clear-then v = refl
+
+spared : (k p : ℕ) (b : Bool) → b ≡ false → refuseIf k p b ≡ Clear
+unfolding refuseIf
+spared k p b e = rw e
+
+-- ---- the library's, of a legal window and buffers of its length: of the pair 2, 5, 6 and 7 are left, and of the dark level 3
+abbrev pub scaleTest : ℕ → Test
+scaleTest full = test 2 0 (badScale full)
+
+module _ (w h full black : ℕ) (mask first second : List ℕ) where
+  abbrev pub leftTests : List Test
+  leftTests =
+      testFirst 5 (sitesOf w h) (badCode mask)
+      ∷ testFirst 6 (sitesOf w h) (above full (seen mask first))
+      ∷ testFirst 6 (sitesOf w h) (above full (seen mask second))
+      ∷ test 7 0 (ltb (pairSpread w h mask first second .n) 2)
+      ∷ test 3 0 (ltb full black)
+      ∷ []
+
+  module _ (even : badSides w h ≡ false) (m : length mask ≡ sitesOf w h) (f : length first ≡ sitesOf w h) (g : length second ≡ sitesOf w h) where
+    long : (n : ℕ) → n ≡ sitesOf w h → (v : Verdict) → refuseIf 4 0 (otherThan (sitesOf w h) n) ⨟ v ≡ v
+    long n e v = skipped 4 0 v (otherThan (sitesOf w h) n) (rw (eq-eqb n (sitesOf w h) e))
+
+    legal : (v : Verdict) → refuseIf 1 0 (badSides w h) ⨟ v ≡ v
+    legal v = skipped 1 0 v (badSides w h) even
+
+    pair-left : pairVerdict w h full mask first second
+        ≡ refuseIf 2 0 (badScale full)
+        ⨟ codesOf (sitesOf w h) mask
+        ⨟ samplesOf (sitesOf w h) full (seen mask first)
+        ⨟ samplesOf (sitesOf w h) full (seen mask second)
+        ⨟ refuseIf 7 0 (ltb (pairSpread w h mask first second .n) 2)
+    unfolding framesOf shapeOf
+    pair-left =
+        spare w h full mask first second
+        ∙ simp (then-assoc, legal, long (length mask) m, long (length first) f, long (length second) g)
+
+    dark-left : pairVerdict w h full mask first second ≡ Clear → darkVerdict w h full black mask first ≡ refuseIf 3 0 (ltb full black)
+    unfolding darkVerdict shapeOf spreadOf
+    dark-left e =
+        let n = sitesOf w h in
+        let few = refuseIf 7 0 (ltb (pairSpread w h mask first second .n) 2) in
+        let over = samplesOf n full (seen mask second) ⨟ few in
+        let scaled = then-clear (refuseIf 2 0 (badScale full)) (codesOf n mask ⨟ samplesOf n full (seen mask first) ⨟ over) (sym pair-left ∙ e) in
+        let coded = then-clear (codesOf n mask) (samplesOf n full (seen mask first) ⨟ over) (scaled .1) in
+        let ranged = then-clear (samplesOf n full (seen mask first)) over (coded .1) in
+        let two = ltb-false (sumTo n (one mask)) 2 (unless 7 0 _ (then-clear (samplesOf n full (seen mask second)) few (ranged .1) .1)) in
+        let some = spared 7 0 (eqb (sumTo n (one mask)) 0) (ne-eqb (sumTo n (one mask)) 0 (λ z. omega arith)) in
+        simp (legal, long (length mask) m, long (length first) f, scaled .0, coded .0, ranged .0, some, clear-then, then-end)
+
+    pub left-is : pairVerdict w h full mask first second ⨟ darkVerdict w h full black mask first ≡ inTurn (scaleTest full) leftTests
+    unfolding refuseFirst
+    left-is = rw (then-same (pairVerdict w h full mask first second) dark-left, pair-left) (simp then-assoc)
