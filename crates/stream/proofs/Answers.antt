@@ -6,15 +6,13 @@ use native.Mathlib.Nat.{le-trans}
 use native.Mathlib.Omega.{arith}
 use lib.Ieee.{Float}
 use lib.IntN.{ℤ}
-use Rattle.laws.proofs.Sums.{sum-le}
 use Rattle.window.specs.Shape.{sitesOf}
-use Rattle.window.specs.View.{one}
 use Rattle.window.specs.Verdict.{_⨟_}
 use Rattle.window.specs.declared.Refusal.{Refusal}
 use Rattle.window.specs.declared.Verdict.{Verdict}
 use Rattle.window.specs.declared.Verdict.the-variants as verdict
 use Rattle.window.proofs.Sides.{sites-few}
-use Rattle.window.proofs.Views.{one-le}
+use Rattle.window.proofs.Views.{surveyed-few}
 use Rattle.pair.specs.Pair.{spreadOf, pairVerdict}
 use Rattle.pair.specs.Answers.{varianceAnswer, variancePaper, noiseAnswer, noisePaperOf, noisePaper}
 use Rattle.pair.specs.declared.Variance.{Variance}
@@ -60,7 +58,7 @@ noise-few w h full mask first second = by (pairVerdict w h full mask first secon
   where
     by : (v : Verdict) → pairVerdict w h full mask first second ≡ v → noisePaper w h full mask first second .n ≤ 16384
     by verdict.Clear e =
-        rw e (le-trans (sum-le (sitesOf w h) 1 (one mask) (λ k l. one-le mask k)) (omega (arith, sites-few w h)))
+        rw e (le-trans (surveyed-few mask (sitesOf w h)) (sites-few w h))
     by (verdict.Refused r) e = rw e (omega arith)
 
 -- ---- the job

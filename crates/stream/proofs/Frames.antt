@@ -6,25 +6,21 @@ use mathlib.Core.Path.{_≡_, refl, sym, ap, _∙_}
 use native.Mathlib.Omega.{arith}
 use lib.ListN.{length, take, drop, length-take, length-drop}
 use lib.Seq.{take-at, length-take-le, length-front}
-use borrow.Author.Tests.{eq-eqb}
 use Rattle.laws.proofs.Tables.{length-tabulate}
 use Rattle.window.specs.Shape.{badSides, sitesOf}
-use Rattle.window.specs.Judge.{otherThan}
 use Rattle.window.specs.declared.Verdict.the-variants.{Clear}
+use Rattle.window.proofs.Chains.{right-length}
 use Rattle.window.proofs.Verdicts.{end, past}
 use Rattle.raw.specs.Packed.{sampleAt, packedLength}
 use Rattle.raw.specs.Unpack.{unpackVerdict, unpackBuffer}
 use Rattle.raw.proofs.Unpacks.{table, accepted-is}
 use Rattle.stream.specs.Stream.{unpacked, sitesIn, packedIn, maskOf, firstOf, secondOf}
 
-same : (n m : ℕ) → m ≡ n → otherThan n m ≡ false
-same n m e = rw (eq-eqb m n e)
-
 -- unpacking refuses nothing of it
 pub unpacks : (w h long : ℕ) → badSides w h ≡ false → long ≡ packedLength 4 (sitesOf w h)
     → unpackVerdict w h long (sitesOf w h) ≡ Clear
 unpacks w h long even e =
-    table w h long (sitesOf w h) .passed (past even (past (same _ long e) (past (same _ (sitesOf w h) refl) end)))
+    table w h long (sitesOf w h) .passed (past even (past (right-length _ long e) (past (right-length _ (sitesOf w h) refl) end)))
 
 -- what `unpack_raw10` leaves in a buffer of the window's length
 pub left : (w h : ℕ) (body out : List ℕ) → unpackVerdict w h (length body) (sitesOf w h) ≡ Clear → length out ≡ sitesOf w h

@@ -6,7 +6,7 @@ use mathlib.Core.Path.{_≡_, refl, sym, _∙_}
 use native.Mathlib.Omega.{arith}
 use lib.Dec.{ltb, eqb}
 use lib.ListN.{length, getD}
-use borrow.Author.Tests.{eq-eqb, ne-eqb, ltb-false}
+use borrow.Author.Tests.{ne-eqb, ltb-false}
 use Rattle.laws.specs.Sum.{sumTo}
 use Rattle.window.specs.Shape.{badSides, badScale, sitesOf}
 use Rattle.window.specs.View.{badCode, above, seen, one}
@@ -14,6 +14,7 @@ use Rattle.window.specs.Verdict.{_⨟_, refuseIf, refuseFirst}
 use Rattle.window.specs.Judge.{shapeOf, otherThan, codesOf, samplesOf}
 use Rattle.window.specs.declared.Verdict.{Verdict}
 use Rattle.window.specs.declared.Verdict.the-variants.{Clear}
+use Rattle.window.proofs.Chains.{right-length}
 use Rattle.window.proofs.Verdicts.{Test, Tabled, test, testFirst, inTurn, tabled, tabled-none, tabled-then, skipped, then-assoc, then-same, then-clear, then-end, unless}
 use Rattle.pair.specs.Pair.{spreadOf, pairSpread, framesOf, pairVerdict}
 use Rattle.pair.proofs.Promises.{spare}
@@ -88,7 +89,7 @@ module _ (w h full black : ℕ) (mask first second : List ℕ) where
 
   module _ (even : badSides w h ≡ false) (m : length mask ≡ sitesOf w h) (f : length first ≡ sitesOf w h) (g : length second ≡ sitesOf w h) where
     long : (n : ℕ) → n ≡ sitesOf w h → (v : Verdict) → refuseIf 4 0 (otherThan (sitesOf w h) n) ⨟ v ≡ v
-    long n e v = skipped 4 0 v (otherThan (sitesOf w h) n) (rw (eq-eqb n (sitesOf w h) e))
+    long n e v = skipped 4 0 v (otherThan (sitesOf w h) n) (right-length (sitesOf w h) n e)
 
     legal : (v : Verdict) → refuseIf 1 0 (badSides w h) ⨟ v ≡ v
     legal v = skipped 1 0 v (badSides w h) even
