@@ -37,8 +37,9 @@
  *   11   a stack's sums cannot come from its frame count
  *   12   a frame is offered to a stack of 100
  *   14   the variance numerator is 2^53 or more
+ *   20 to 24   a stream's faults, as tip_job says
  *
- * The place of 5 and 6 is the first offending site; of any other refusal it is 0.
+ * The place of 5 and 6 is the first offending site, of 20 to 23 an offset in the stream; of any other refusal it is 0.
  */
 #ifndef TIPPOVRAIN_H
 #define TIPPOVRAIN_H
@@ -389,6 +390,31 @@ uint64_t tip_colour_ratios(size_t width, size_t height, uint64_t full_scale, uin
                            int64_t *r_numerator, uint64_t *r_denominator,
                            int64_t *b_numerator, uint64_t *b_denominator,
                            int64_t *gb_numerator, uint64_t *gb_denominator);
+
+/*
+ * A whole job in one stream: two frames, their mask and numbers in, pair noise and the first frame's dark level out.
+ * A field is a one-byte tag, a two-byte big-endian length and the body; tags 1 to 7 then 0, in that order: 1 width,
+ * 2 height, 3 full scale, 4 black level (two bytes each, big-endian), 5 mask, 6 and 7 the frames in RAW10, 0 empty.
+ * Sides are at most 64, so no good stream is longer than 14,368 bytes, and the first 14,369 decide every answer.
+ *
+ *   input   the stream, only read
+ *   place   written: the offset of the field's first byte for 20, 21 and 22, of the first extra byte for 23, the site
+ *           for 5 and 6, else 0
+ *   sites   written: n, the count of surveyed sites
+ *   p, q    written: the variance of the pair, p / q, as tip_pair_variance
+ *   r       written: the noise is r / (64 * n), as tip_pair_noise
+ *   dark    written: the first frame's dark level is dark / n, as tip_dark_level
+ *
+ * Refusals, first met in the stream. In a field: 21 (another tag than the next due), 20 (the input ends inside the
+ * field or before it), 22 (wrong length); the tag is judged first, then the length, then whether the body is all
+ * there. After field 2: 1, then 24 (a side above 64). After field 0: 23 (bytes follow), then the library's refusals:
+ * 2, 5, 6, 7 of pair noise, then 3 of the dark level.
+ *
+ *   tip_job(input, 46, &place, &sites, &p, &q, &r, &dark) on the stream of K1 (crates/job/stdin)
+ *                                                        gives 0, and 4, 4 / 32, 90 / 256, 150 / 4
+ */
+uint64_t tip_job(const uint8_t *input, size_t input_len,
+                 uint64_t *place, uint64_t *sites, uint64_t *p, uint64_t *q, uint64_t *r, int64_t *dark);
 
 #ifdef __cplusplus
 }

@@ -422,6 +422,36 @@ static void colour_ratios(void)
     check("tip_colour_ratios", "refused 10", has_ratios(64, 200, 0, 10, none, zero));
 }
 
+/* ---- tip_job ---- */
+
+/* The stream of K1, and a byte over. */
+static const uint8_t k1_stream[47] = {
+    1, 0, 2, 0, 2, 2, 0, 2, 0, 2, 3, 0, 2, 3, 255, 4, 0, 2, 0, 64, 5, 0, 4, 0, 0, 0, 0,
+    6, 0, 5, 25, 25, 25, 25, 228, 7, 0, 5, 25, 25, 25, 26, 37, 0, 0, 0, 0};
+
+static int answers_job(const uint8_t *input, size_t len, uint64_t number, uint64_t place,
+                       uint64_t sites, uint64_t p, uint64_t q, uint64_t r, int64_t dark)
+{
+    uint64_t at = UNWRITTEN, got_sites = UNWRITTEN, got_p = UNWRITTEN, got_q = UNWRITTEN, got_r = UNWRITTEN;
+    int64_t got_dark = UNWRITTEN;
+    return tip_job(input, len, &at, &got_sites, &got_p, &got_q, &got_r, &got_dark) == number
+        && at == place && got_sites == sites && got_p == p && got_q == q && got_r == r && got_dark == dark;
+}
+
+static void job(void)
+{
+    static const uint8_t other_tag[1] = {2}, other_length[3] = {1, 0, 3};
+    static const uint8_t wide[10] = {1, 0, 2, 0, 66, 2, 0, 2, 0, 2};
+
+    check("tip_job", "K1", answers_job(k1_stream, 46, 0, 0, 4, 4, 32, 90, 150));
+    check("tip_job", "refused 20 at 0, no input", answers_job(k1_stream, 0, 20, 0, 0, 0, 0, 0, 0));
+    check("tip_job", "refused 20 at 35, cut in field 7", answers_job(k1_stream, 42, 20, 35, 0, 0, 0, 0, 0));
+    check("tip_job", "refused 21", answers_job(other_tag, 1, 21, 0, 0, 0, 0, 0, 0));
+    check("tip_job", "refused 22", answers_job(other_length, 3, 22, 0, 0, 0, 0, 0, 0));
+    check("tip_job", "refused 23 at 46", answers_job(k1_stream, 47, 23, 46, 0, 0, 0, 0, 0));
+    check("tip_job", "refused 24", answers_job(wide, 10, 24, 0, 0, 0, 0, 0, 0));
+}
+
 /* ---- all calls ---- */
 
 int main(void)
@@ -435,6 +465,7 @@ int main(void)
         sites,
         lines,
         colour_ratios,
+        job,
     };
 
     for (size_t i = 0; i < COUNT(calls); i++) calls[i]();

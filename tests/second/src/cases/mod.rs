@@ -3,6 +3,7 @@
 mod colour;
 mod dark;
 mod dice;
+mod job;
 mod lines;
 mod pair;
 mod pattern;
@@ -92,5 +93,10 @@ pub const CALLS: &[Call] = &[
         name: "colour_ratios",
         required: &[0, 1, 2, 3, 4, 5, 6, 7, 9, 10],
         round: colour::colour_ratios,
+    },
+    Call {
+        name: "job",
+        required: &[0, 1, 2, 3, 5, 6, 7, 20, 21, 22, 23, 24],
+        round: job::job,
     },
 ];

@@ -106,7 +106,7 @@ fn every_sample_in_every_turn(tally: &mut Tally, dice: &mut Dice) {
     }
 }
 
-fn packed(samples: &[u16]) -> Vec<u8> {
+pub fn packed(samples: &[u16]) -> Vec<u8> {
     let mut bytes = vec![];
     for group in samples.chunks(4) {
         bytes.extend(group.iter().map(|sample| (sample / 4) as u8));

@@ -4,7 +4,7 @@ use std::fmt::{Debug, Formatter, Result};
 use std::ops::{Deref, DerefMut};
 
 const GUARDS: usize = 8;
-const SHOWN: usize = 36;
+const SHOWN: usize = 48;
 
 #[derive(Clone, PartialEq)]
 pub struct Lent<T> {

@@ -4,6 +4,7 @@
 pub mod colour;
 pub mod dark;
 pub mod float;
+pub mod job;
 pub mod lines;
 pub mod pair;
 pub mod pattern;

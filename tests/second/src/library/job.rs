@@ -1,0 +1,40 @@
+use reference::shared::Answer;
+
+use super::{Lent, GARBAGE};
+
+extern "C" {
+    fn tip_job(
+        input: *const u8,
+        input_len: usize,
+        place: *mut u64,
+        sites: *mut u64,
+        p: *mut u64,
+        q: *mut u64,
+        r: *mut u64,
+        dark: *mut i64,
+    ) -> u64;
+}
+
+pub fn job(input: &mut Lent<u8>) -> Answer {
+    let (mut place, mut sites, mut p, mut q) = (GARBAGE, GARBAGE, GARBAGE, GARBAGE);
+    let (mut r, mut dark) = (GARBAGE, GARBAGE as i64);
+    // SAFETY: the input is lent with its own length, and only the cells are written.
+    let number = unsafe {
+        tip_job(
+            input.address(),
+            input.len(),
+            &mut place,
+            &mut sites,
+            &mut p,
+            &mut q,
+            &mut r,
+            &mut dark,
+        )
+    };
+    let figures = vec![sites.into(), p.into(), q.into(), r.into(), dark.into()];
+    Answer {
+        number,
+        place,
+        figures,
+    }
+}
