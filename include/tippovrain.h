@@ -12,6 +12,8 @@
  *    refusal it gets 0, place aside; where the call is accepted, place gets 0.
  *  - On a refusal every lent buffer stays as it was, to the last byte.
  *  - A buffer is a pointer and a length. The length counts elements, not bytes.
+ *  - A mask has a code for each site: 0 surveyed, 1 gap, 2 defect, 3 filled. Only samples and sums at code 0 are read for
+ *    a figure, a verdict or a refusal; at any other code they may be any number.
  *  - Any value of a parameter's type may be handed in, sides and lengths included: what is out of range is refused.
  *
  * The caller's fault, and not tested for:
@@ -39,7 +41,7 @@
  *   14   the variance numerator is 2^53 or more
  *   20 to 24   a stream's faults, as tip_job says
  *
- * The place of 5 and 6 is the first offending site, of 20 to 23 an offset in the stream; of any other refusal it is 0.
+ * The place of 5 and 6 is the first offending site, as its number in its own frame, of 20 to 23 an offset in the stream; of any other refusal it is 0.
  */
 #ifndef TIPPOVRAIN_H
 #define TIPPOVRAIN_H
@@ -189,7 +191,7 @@ uint64_t tip_stack_add(size_t width, size_t height, uint64_t full_scale, uint64_
  *   numerator, denominator, variance   written
  *
  * Refusals, in the order tested: 1; 2; 3 (frames is 0 or above 100); 4 (mask, sums or squares); 5; 7 (no surveyed site,
- * or frames is 1); 11 (as tip_stack_add); 14.
+ * or frames is 1); 11 (as tip_stack_add); 14, which no sums within these limits can give.
  *
  *   const uint8_t mask[4] = {0, 0, 0, 0};
  *   const uint32_t sums[4] = {201, 202, 204, 207}, squares[4] = {20201, 20402, 20808, 21425};

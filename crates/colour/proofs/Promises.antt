@@ -69,9 +69,9 @@ module _ (w h full black order : ℕ) (mask frame : List ℕ) where
         rw (answer-is w h full black order mask frame r b gb answer .1 .2)
         (sound (told .scale) (told .dark) (told .gb) (told .gr) (told .bright))
 
-    -- inside: no centre is cut off, and what is left of a plane on one side is what is left on the other or one more
-    pub inside : (centreOf w h .bottom ≤ h / 2) × (h / 2 ≤ centreOf w h .top + centreOf w h .bottom + 1)
-        × (centreOf w h .right ≤ w / 2) × (w / 2 ≤ centreOf w h .left + centreOf w h .right + 1)
+    -- inside: no centre is cut off, and what is left of a plane below and to the right is what is left above and to the left, or one more
+    pub inside : (centreOf w h .top + centreOf w h .bottom ≤ h / 2) × (h / 2 ≤ centreOf w h .top + centreOf w h .bottom + 1)
+        × (centreOf w h .left + centreOf w h .right ≤ w / 2) × (w / 2 ≤ centreOf w h .left + centreOf w h .right + 1)
     inside = (omega (arith, told .high), omega arith, omega (arith, told .wide), omega arith)
 
 -- colours: the order names the colour at site (0,0)

@@ -69,7 +69,7 @@ measured : (v : Verdict) (f g : Figures) → answered v f ≡ Measured g → (v 
 measured verdict.Clear f g e = (refl, sym (ap (λ (a : Pattern). paperOf a .figures) e))
 measured (verdict.Refused r) f g e = let z : _≡_ {A = ℕ} 0 1 = cc in absurd (omega arith)
 
--- the level is from 0 to 1 and Max from -1 to 1, and all four numbers are far within 64 bits
+-- the level squared is from 0 to 1 and Max from -1 to 1, and all four numbers are far within 64 bits
 pub record Bounded (f : Figures) : Type 0 where
   pub level : f .«level_numerator» ≤ f .«level_denominator»
   pub level-some : 0 < f .«level_denominator»

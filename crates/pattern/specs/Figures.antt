@@ -1,4 +1,4 @@
--- Document 01, "Pattern noise": the figures of n lines with totals C, where `unit` is h × k × full scale.
+-- Document 01, "Pattern noise": the figures of n lines with totals C, where `unit` is the sites of a line × k × full scale.
 use Prim.Native.Nat.{ℕ, _+_, _-_, _*_}
 use lib.IntN.{ℤ, pos}
 use Rattle.laws.specs.Sum.{sumTo, sumIn}

@@ -115,14 +115,18 @@ module _ (w h full : ℕ) (mask frame outFrame outMask : List ℕ) (accepted : r
   unfolding filledAt codeAfter
   only-filled i l = rw (code-at i l) (only-turned 2 3 (getD mask i 0) (fillable w h mask i))
 
-  -- a site of any other code than 2 keeps its code and its sample
-  pub others-stay : (i : ℕ) → i < sitesOf w h → (getD mask i 0 ≡ 2 → ⊥)
+  -- a site that is not filled, of code 2 with no surveyed neighbour or of any other, keeps its code and its sample
+  pub unfilled-stays : (i : ℕ) → i < sitesOf w h → filledAt w h mask i ≡ 0
       → (getD (repairMask w h full mask frame (length outFrame) outMask) i 0 ≡ getD mask i 0) × (getD (repairFrame w h full mask frame outFrame (length outMask)) i 0 ≡ getD frame i 0)
-  others-stay i l other =
-      let none = not-defect w h mask i other in
+  unfilled-stays i l none =
       (code-at i l ∙ sym (kept-code w h mask i none), sample-at i l ∙ sym (kept-sample w h mask i (seen mask frame) frame none))
 
-  -- so a gap stays a gap and keeps its sample
+  -- so a site of any other code than 2 does
+  pub others-stay : (i : ℕ) → i < sitesOf w h → (getD mask i 0 ≡ 2 → ⊥)
+      → (getD (repairMask w h full mask frame (length outFrame) outMask) i 0 ≡ getD mask i 0) × (getD (repairFrame w h full mask frame outFrame (length outMask)) i 0 ≡ getD frame i 0)
+  others-stay i l other = unfilled-stays i l (not-defect w h mask i other)
+
+  -- and a gap stays a gap and keeps its sample
   pub gap-stays : (i : ℕ) → i < sitesOf w h → getD mask i 0 ≡ 1
       → (getD (repairMask w h full mask frame (length outFrame) outMask) i 0 ≡ 1) × (getD (repairFrame w h full mask frame outFrame (length outMask)) i 0 ≡ getD frame i 0)
   gap-stays i l gap =

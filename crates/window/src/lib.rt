@@ -136,16 +136,16 @@ fn first_over(width: usize, height: usize, full_scale: u64, mask: &[u8], frame: 
     requires { ⌜ (length (now mask) ≡ height * width) × (length (now frame) ≡ height * width) ⌝ }
     ensures { λ r. ⌜ r ≡ firstTo (height * width) (above «full_scale» (seen (now (mask .entry)) (now (frame .entry)))) ⌝ }
 {
-    let mut at: usize = 0;
+    let mut site: usize = 0;
     'rows: for row in 0..height {
         for column in 0..width {
-            if full_scale < wide(seen_at(mask[at], frame[at])) {
+            if full_scale < wide(seen_at(mask[site], frame[site])) {
                 break 'rows;
             }
-            at += 1;
+            site += 1;
         }
     }
-    at
+    site
 }
 
 // The sites that a buffer of this length lets be walked: the window's, where it has just as many, or none.

@@ -1,4 +1,5 @@
 //! Compares the compiled library with the reference: `second [--seed S] [--rounds N]`.
+//! `second --streams FOLDER [--seed S]` writes damaged job streams, N.in, and what the job program must print, N.out.
 
 #[cfg(library_missing)]
 compile_error!("target/native/libtippovrain.a is missing: run tools/native-lib tippovrain first");
@@ -6,28 +7,50 @@ compile_error!("target/native/libtippovrain.a is missing: run tools/native-lib t
 mod cases;
 mod library;
 
-use std::env;
+use std::path::{Path, PathBuf};
 use std::process::ExitCode;
+use std::{env, fs, io};
 
 use cases::{Call, Dice, Tally, CALLS};
+use reference::job::printed;
 
 struct Options {
     seed: u64,
     rounds: u64,
+    streams: Option<PathBuf>,
 }
 
-fn options() -> Result<Options, String> {
-    let mut options = Options { seed: 1, rounds: 5 };
+fn options() -> Option<Options> {
+    let mut options = Options {
+        seed: 1,
+        rounds: 5,
+        streams: None,
+    };
     let mut words = env::args().skip(1);
     while let Some(word) = words.next() {
-        let number = words.next().and_then(|text| text.parse().ok());
-        match (word.as_str(), number) {
-            ("--seed", Some(seed)) => options.seed = seed,
-            ("--rounds", Some(rounds)) if rounds > 0 => options.rounds = rounds,
-            _ => return Err("usage: second [--seed S] [--rounds N]".to_string()),
+        let value = words.next()?;
+        match word.as_str() {
+            "--seed" => options.seed = value.parse().ok()?,
+            "--rounds" => options.rounds = value.parse().ok().filter(|rounds| *rounds > 0)?,
+            "--streams" => options.streams = Some(PathBuf::from(value)),
+            _ => return None,
         }
     }
-    Ok(options)
+    Some(options)
+}
+
+/// So many streams, each with what the job program must print for it.
+const STREAMS: usize = 300;
+
+fn write_streams(folder: &Path, seed: u64) -> io::Result<()> {
+    fs::create_dir_all(folder)?;
+    let mut dice = Dice::new(seed, "streams", 0);
+    for number in 0..STREAMS {
+        let stream = cases::damaged_stream(&mut dice);
+        fs::write(folder.join(format!("{number}.out")), printed(&stream))?;
+        fs::write(folder.join(format!("{number}.in")), stream)?;
+    }
+    Ok(())
 }
 
 fn run(call: &Call, options: &Options) -> Tally {
@@ -61,13 +84,19 @@ fn print(call: &Call, tally: &Tally, missing: &[u64]) {
 }
 
 fn main() -> ExitCode {
-    let options = match options() {
-        Ok(options) => options,
-        Err(usage) => {
-            eprintln!("{usage}");
-            return ExitCode::from(2);
-        }
+    let Some(options) = options() else {
+        eprintln!("usage: second [--seed S] [--rounds N] | --streams FOLDER [--seed S]");
+        return ExitCode::from(2);
     };
+    if let Some(folder) = &options.streams {
+        return match write_streams(folder, options.seed) {
+            Ok(()) => ExitCode::SUCCESS,
+            Err(error) => {
+                eprintln!("{}: {error}", folder.display());
+                ExitCode::FAILURE
+            }
+        };
+    }
     let (mut cases, mut differences, mut missed) = (0, 0, 0);
     for call in CALLS {
         let tally = run(call, &options);

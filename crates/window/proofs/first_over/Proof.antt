@@ -12,27 +12,27 @@ use Rattle.window.proofs.first_over.Statement.{statement}
 use Rattle.window.proofs.first_over.Tie as tie
 
 abbrev Inv-loop : tie.InvT-loop
-Inv-loop width height full-scale mask frame at₀ row column₀ at column = AtSite (above full-scale (seen mask frame)) width row column at
+Inv-loop width height full-scale mask frame site₀ row column₀ site column = AtSite (above full-scale (seen mask frame)) width row column site
 
 abbrev μ-loop : tie.MeasureT-loop
-μ-loop width height full-scale mask frame at₀ row column₀ at column = width - column
+μ-loop width height full-scale mask frame site₀ row column₀ site column = width - column
 
 abbrev Inv-rows : tie.InvT-rows
-Inv-rows width height full-scale mask frame at₀ row₀ at row = AtRow (above full-scale (seen mask frame)) width height row at
+Inv-rows width height full-scale mask frame site₀ row₀ site row = AtRow (above full-scale (seen mask frame)) width height row site
 
 abbrev μ-rows : tie.MeasureT-rows
-μ-rows width height full-scale mask frame at₀ row₀ at row = height - row
+μ-rows width height full-scale mask frame site₀ row₀ site row = height - row
 
 abbrev Begun : tie.In-loop Inv-loop μ-loop Inv-rows μ-rows → tie.Start Inv-loop μ-loop Inv-rows μ-rows
 Begun c = c .before .before .before .before .before .before
 
-inside : (c : tie.In-loop Inv-loop μ-loop Inv-rows μ-rows) → c .before .loop .at < Begun c .args .height * Begun c .args .width
+inside : (c : tie.In-loop Inv-loop μ-loop Inv-rows μ-rows) → c .before .loop .site < Begun c .args .height * Begun c .args .width
 inside c = site-in (c .before .loop .inv) (c .before .before .rows-test .taken) (c .loop-test .taken)
 
 -- what the test compares is what is seen at the site
 seen-here : (c : tie.After-wide Inv-loop μ-loop Inv-rows μ-rows)
     → c .wide .result
-    ≡ seen (Begun (c .before .before .before .before) .args .mask .now) (Begun (c .before .before .before .before) .args .frame .now) (c .before .before .before .before .before .loop .at)
+    ≡ seen (Begun (c .before .before .before .before) .args .mask .now) (Begun (c .before .before .before .before) .args .frame .now) (c .before .before .before .before .before .loop .site)
 seen-here c = c .wide .ensures ∙ c .before .seen-at .ensures ∙ sym (seen-is _ _ _)
 
 rows-holds : tie.Need-rows-holds Inv-loop μ-loop Inv-rows μ-rows
@@ -56,8 +56,8 @@ seen-at-requires c κs = search needs
 wide-requires : tie.Need-wide-requires Inv-loop μ-loop Inv-rows μ-rows
 wide-requires c κs = search needs
 
-add-at : tie.Need-add-at Inv-loop μ-loop Inv-rows μ-rows
-add-at c = omega (arith, inside (c .before .before .before .before .before))
+add-site : tie.Need-add-site Inv-loop μ-loop Inv-rows μ-rows
+add-site c = omega (arith, inside (c .before .before .before .before .before))
 
 add-column : tie.Need-add-column Inv-loop μ-loop Inv-rows μ-rows
 add-column c = search needs
@@ -100,7 +100,7 @@ first-over-spec =
     shared-slice-read-seen-at-2
     seen-at-requires
     wide-requires
-    add-at
+    add-site
     add-column
     loop-less
     loop-again

@@ -136,6 +136,16 @@ fn k1() -> Sheet {
     }
 }
 
+/// A stream of a small window, whole one time in four.
+pub fn damaged_stream(dice: &mut Dice) -> Vec<u8> {
+    let stream = legal(dice).stream();
+    if dice.one_in(4) {
+        stream
+    } else {
+        damaged(stream, dice)
+    }
+}
+
 pub fn job(tally: &mut Tally, dice: &mut Dice) {
     every_cut_and_every_byte(tally);
     numbers(tally, dice);

@@ -17,6 +17,7 @@ mod tally;
 mod windows;
 
 pub use dice::Dice;
+pub use job::damaged_stream;
 pub use tally::Tally;
 
 pub struct Call {

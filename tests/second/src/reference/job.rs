@@ -10,6 +10,23 @@ pub fn job(input: &[u8]) -> Answer {
     settle(run(input), 5)
 }
 
+/// What the job program prints for a stream: four lines, or one refusal and nothing else.
+pub fn printed(input: &[u8]) -> String {
+    let Answer {
+        number,
+        place,
+        figures,
+    } = job(input);
+    if number != 0 {
+        return format!("refused {number} at {place}\n");
+    }
+    let [sites, p, q, r, dark] = figures[..] else {
+        unreachable!("a job has five figures");
+    };
+    let over = 64 * sites;
+    format!("sites {sites}\nvariance {p}/{q}\nnoise {r}/{over}\ndark {dark}/{sites}\n")
+}
+
 /// The input, and how far it has been read.
 struct Stream<'a> {
     input: &'a [u8],
@@ -178,6 +195,17 @@ mod tests {
         assert_eq!(refused(&stream), (23, 46));
         stream[45] = 1;
         assert_eq!(refused(&stream), (22, 43));
+    }
+
+    /// "Whole output for K1".
+    #[test]
+    fn prints_four_lines_or_one() {
+        let whole = k1(1023, 64, [0; 4]);
+        assert_eq!(
+            printed(&whole),
+            "sites 4\nvariance 4/32\nnoise 90/256\ndark 150/4\n"
+        );
+        assert_eq!(printed(&k1(103, 64, [0; 4])), "refused 6 at 3\n");
     }
 
     /// R33.
