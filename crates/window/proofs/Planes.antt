@@ -1,14 +1,14 @@
 -- The laws of planes, and of what is seen in a box of a plane's coordinates.
 use Prim.Native.Nat.{ℕ, suc, _+_, _-_, _*_, _/_, _%_, _<_, _≤_, min}
 use mathlib.Core.List.{List}
-use mathlib.Core.Path.{_≡_, sym, ap₂, _∙_}
-use native.Mathlib.Nat.{le-trans, zero-mul, suc-mul, mul-le-mul, mul-le-mul-right, div-add-mod'}
+use mathlib.Core.Path.{_≡_, sym, ap, ap₂, _∙_}
+use native.Mathlib.Nat.{le-trans, zero-mul, suc-mul, add-mul, mul-comm, mul-assoc, mul-le-mul, mul-le-mul-right, div-add-mod'}
 use native.Mathlib.Omega.{arith}
 use lib.Arith.{digits-div, digits-mod}
 use lib.ListN.{length, getD}
 use borrow.Author.Tests.{eq-eqb, ne-eqb}
 use Rattle.laws.specs.Sum.{sumBox}
-use Rattle.laws.proofs.Sums.{box-ext, box-scaled, box-le, box-shift, box-cut}
+use Rattle.laws.proofs.Sums.{box-ext, box-scaled, box-le, box-shift, box-cut, box-turned}
 use Rattle.window.specs.Shape.{sitesOf}
 use Rattle.window.specs.View.{seen, one}
 use Rattle.window.specs.Judge.{walked}
@@ -29,6 +29,32 @@ module _ (w h plane u : ℕ) (low : u < h / 2) where
   -- and so does each of its sites
   pub site-in : (v : ℕ) → v < w / 2 → siteAt w plane u v < h * w
   site-in v in-row = omega (arith, row-in (v + 1) (omega arith))
+
+-- a plane's sites are 2 apart along a row, and two rows apart down a column
+module _ (w plane : ℕ) where
+  pub stepped : (u v : ℕ) → rowParity plane * w + columnParity plane + 2 * w * u + 2 * v ≡ siteAt w plane u v
+  stepped u v =
+      omega (arith, add-mul (2 * u) (rowParity plane) w, mul-assoc 2 u w, mul-comm u w, mul-assoc 2 w u)
+
+  pub stepped-down : (u v : ℕ) → rowParity plane * w + columnParity plane + 2 * v + 2 * w * u ≡ siteAt w plane u v
+  stepped-down u v = omega (arith, stepped u v)
+
+  -- from a first one in the first two rows
+  pub start-low : w ≤ 128 → rowParity plane * w + columnParity plane ≤ 129
+  start-low narrow = let low : rowParity plane ≤ 1 = omega arith in omega (arith, mul-le-mul-right w low)
+
+  -- so a box can be summed by its rows, or by its columns
+  pub by-rows : (top bottom left right : ℕ) (view : ℕ → ℕ)
+      → sumBox top bottom left right (λ (u v : ℕ). view (rowParity plane * w + columnParity plane + 2 * w * u + 2 * v))
+      ≡ sumBox top bottom left right (λ (u v : ℕ). view (siteAt w plane u v))
+  by-rows top bottom left right view = box-ext _ _ _ _ _ _ (λ u v p q s t. ap view (stepped u v))
+
+  pub by-columns : (top bottom left right : ℕ) (view : ℕ → ℕ)
+      → sumBox left right top bottom (λ (v u : ℕ). view (rowParity plane * w + columnParity plane + 2 * v + 2 * w * u))
+      ≡ sumBox top bottom left right (λ (u v : ℕ). view (siteAt w plane u v))
+  by-columns top bottom left right view =
+      box-ext left right top bottom _ (λ (v u : ℕ). view (siteAt w plane u v)) (λ v u p q s t. ap view (stepped-down u v))
+      ∙ sym (box-turned top bottom left right (λ (u v : ℕ). view (siteAt w plane u v)))
 
 -- a site of a plane is in that plane, in its row and in its column
 module _ (w plane u v : ℕ) (in-row : v < w / 2) where

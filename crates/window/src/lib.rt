@@ -203,17 +203,25 @@ fn sample_at(code: u8, sample: u16) -> u32
     seen_at(code, sample) as u32
 }
 
-// The sites at start + 2 v, from v = left to before right: a row of a plane, or part of it.
-fn row_sums(start: usize, left: usize, right: usize, mask: &[u8], frame: &[u16]) -> Sums
-    requires { ⌜ (left ≤ right) × (right ≤ 64) × (start + 2 * right ≤ length (now mask) + 1) × (length (now frame) ≡ length (now mask)) ⌝ }
-    ensures { λ r. ⌜ (r .count ≡ sumIn left right (λ (v : ℕ). one (now (mask .entry)) (start + 2 * v))) × (r .count ≤ 64) ⌝ }
-    ensures { λ r. ⌜ (r .total ≡ sumIn left right (λ (v : ℕ). seen (now (mask .entry)) (now (frame .entry)) (start + 2 * v))) × (r .total ≤ 4194240) ⌝ }
+// A run of sites: those at start + step v, from v = first to before last.
+fn run_sums(
+    start: usize,
+    step: usize,
+    first: usize,
+    last: usize,
+    mask: &[u8],
+    frame: &[u16],
+) -> Sums
+    requires { ⌜ (first ≤ last) × (last ≤ 64) × (length (now frame) ≡ length (now mask)) ⌝ }
+    requires { ⌜ ((v : ℕ) → v < last → start + step * v < length (now mask)) ⌝ }
+    ensures { λ r. ⌜ (r .count ≡ sumIn first last (λ (v : ℕ). one (now (mask .entry)) (start + step * v))) × (r .count ≤ 64) ⌝ }
+    ensures { λ r. ⌜ (r .total ≡ sumIn first last (λ (v : ℕ). seen (now (mask .entry)) (now (frame .entry)) (start + step * v))) × (r .total ≤ 4194240) ⌝ }
 {
     let mut count: u32 = 0;
     let mut total: u32 = 0;
-    let mut v = left;
-    while v < right {
-        let at = start + 2 * v;
+    let mut v = first;
+    while v < last {
+        let at = start + step * v;
         let code = mask[at];
         count += one_at(code);
         total += sample_at(code, frame[at]);
@@ -225,13 +233,42 @@ fn row_sums(start: usize, left: usize, right: usize, mask: &[u8], frame: &[u16])
     }
 }
 
+// Runs side by side: the sites at start + stride u + step v, from u = top to before bottom.
+fn runs_sums(
+    start: usize,
+    stride: usize,
+    step: usize,
+    top: usize,
+    bottom: usize,
+    first: usize,
+    last: usize,
+    mask: &[u8],
+    frame: &[u16],
+) -> Sums
+    requires { ⌜ (start ≤ 129) × (stride ≤ 256) × (top ≤ bottom) × (bottom ≤ 64) × (first ≤ last) × (last ≤ 64) × (length (now frame) ≡ length (now mask)) ⌝ }
+    requires { ⌜ ((u v : ℕ) → u < bottom → v < last → start + stride * u + step * v < length (now mask)) ⌝ }
+    ensures { λ r. ⌜ (r .count ≡ sumBox top bottom first last (λ (u v : ℕ). one (now (mask .entry)) (start + stride * u + step * v))) × (r .count ≤ 4096) ⌝ }
+    ensures { λ r. ⌜ r .total ≡ sumBox top bottom first last (λ (u v : ℕ). seen (now (mask .entry)) (now (frame .entry)) (start + stride * u + step * v)) ⌝ }
+{
+    let mut count = 0;
+    let mut total = 0;
+    let mut u = top;
+    while u < bottom {
+        let sums = run_sums(start + stride * u, step, first, last, mask, frame);
+        count += sums.count;
+        total += sums.total;
+        u += 1;
+    }
+    Sums { count, total }
+}
+
 fn least(a: usize, b: usize) -> usize
     ensures { λ r. ⌜ r ≡ min a b ⌝ }
 {
     if a < b { a } else { b }
 }
 
-// A box that lies inside the plane, row by row.
+// A box that lies inside the plane: row by row, or column by column where it is too narrow for a row to be worth a run.
 fn inner_sums(
     width: usize,
     height: usize,
@@ -250,16 +287,13 @@ fn inner_sums(
 {
     let row = plane / 2 % 2;
     let column = plane % 2;
-    let mut count = 0;
-    let mut total = 0;
-    let mut u = top;
-    while u < bottom {
-        let sums = row_sums((2 * u + row) * width + column, left, right, mask, frame);
-        count += sums.count;
-        total += sums.total;
-        u += 1;
+    let start = row * width + column;
+    let down = 2 * width;
+    if right - left < 4 {
+        runs_sums(start, 2, down, left, right, top, bottom, mask, frame)
+    } else {
+        runs_sums(start, down, 2, top, bottom, left, right, mask, frame)
     }
-    Sums { count, total }
 }
 
 // What is seen in a box of a plane, which is cut off at the plane's edges; nothing in buffers that have not the window's sites.
