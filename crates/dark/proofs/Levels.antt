@@ -7,6 +7,7 @@ use lib.Dec.{eqb, ltb}
 use lib.IntN.{ℤ}
 use lib.ListN.{length}
 use borrow.Author.Tests.{ltb-false, eqb-false}
+use Rattle.window.proofs.Walks.{walked-whole}
 use Rattle.laws.specs.Sum.{sumTo}
 use Rattle.window.specs.Shape.{badSides, badScale, sitesOf}
 use Rattle.window.specs.View.{badCode, above, seen, one}
@@ -40,7 +41,7 @@ module _ (w h full black : ℕ) (mask frame : List ℕ) where
   table = rw shape-then (tabled _ _)
 
   -- what is judged of buffers of another length does not matter: 4 comes first
-  pub judged : (count : ℕ) → count ≡ sumTo (length mask) (one mask)
+  pub judged : (count : ℕ) → count ≡ sumTo (walked w h (length mask)) (one mask)
       → shapeOf w h full
       ⨟ refuseIf 3 0 (ltb full black)
       ⨟ refuseIf 4 0 (otherThan (sitesOf w h) (length mask))
@@ -53,7 +54,7 @@ module _ (w h full black : ℕ) (mask frame : List ℕ) where
   judged count p =
       then-same (shapeOf w h full) (λ _. then-same (refuseIf 3 0 (ltb full black)) (λ _.
       measured (sitesOf w h) (length mask) (λ e. measured (sitesOf w h) (length frame) (λ f.
-      rw (codes-whole w h mask e, samples-whole w h full mask frame e f, p, e)))))
+      rw (codes-whole w h mask e, samples-whole w h full mask frame e f, p, walked-whole w h (length mask) e)))))
 
   -- what an accepted call's numbers are
   pub record Accepted : Type 0 where

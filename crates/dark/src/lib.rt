@@ -5,6 +5,7 @@ ghost use Prim.Native.Nat.{_≤_};
 ghost use lib.IntN.{pos};
 ghost use lib.ListN.{length};
 ghost use Rattle.laws.specs.Sum.{sumTo};
+ghost use Rattle.window.specs.Judge.{walked};
 ghost use Rattle.window.specs.View.{surveyed, seen, one};
 ghost use Rattle.dark.specs.Dark.{aboveBlack, darkVerdict, darkAnswer, paperOf, darkPaper};
 use window::Refusal;
@@ -26,7 +27,7 @@ fn judge(
     frame: &[u16],
     count: u64,
 ) -> Verdict
-    requires { ⌜ count ≡ sumTo (length (now mask)) (one (now mask)) ⌝ }
+    requires { ⌜ count ≡ sumTo (walked width height (length (now mask))) (one (now mask)) ⌝ }
     ensures { λ r. ⌜ r ≡ darkVerdict width height «full_scale» «black_level» (now (mask .entry)) (now (frame .entry)) ⌝ }
 {
     let n = window::sites(width, height);
@@ -73,7 +74,7 @@ pub fn dark_level(
     ensures answer { λ r. ⌜ r ≡ darkAnswer width height «full_scale» «black_level» (now (mask .entry)) (now (frame .entry)) ⌝ }
     ensures paper { λ r. ⌜ paperOf r ≡ darkPaper width height «full_scale» «black_level» (now (mask .entry)) (now (frame .entry)) ⌝ }
 {
-    let count = window::surveyed(mask);
+    let count = window::surveyed(width, height, mask);
     match judge(width, height, full_scale, black_level, mask, frame, count) {
         Verdict::Refused(refusal) => Dark::Refused(refusal),
         Verdict::Clear => Dark::Level(above_black(black_level, mask, frame), count),

@@ -9,6 +9,7 @@ use lib.Dec.{eqb, ltb, leb}
 use lib.Ieee.{Float}
 use lib.ListN.{length}
 use borrow.Author.Tests.{ltb-false, eqb-false}
+use Rattle.window.proofs.Walks.{walked-whole}
 use Rattle.laws.specs.Sum.{sumTo}
 use Rattle.laws.proofs.Cases.{neither, times-le}
 use Rattle.laws.proofs.Sums.{sum-le}
@@ -77,7 +78,7 @@ module _ (w h full k : ℕ) (mask sums squares : List ℕ) where
   table = rw shape-then (tabled _ _)
 
   -- what is judged of buffers of another length does not matter: 4 comes first
-  pub judged : (count numerator : ℕ) → count ≡ sumTo (length mask) (one mask)
+  pub judged : (count numerator : ℕ) → count ≡ sumTo (walked w h (length mask)) (one mask)
       → numerator ≡ cond (readable full k (length mask) (length sums) (length squares)) (spread (length mask) k (seen mask sums) (seen mask squares)) 0
       → shapeOf w h full
       ⨟ refuseIf 3 0 (badCount k)
@@ -95,7 +96,7 @@ module _ (w h full k : ℕ) (mask sums squares : List ℕ) where
       measured (sitesOf w h) (length mask) (λ m.
       measured (sitesOf w h) (length sums) (λ s. measured (sitesOf w h) (length squares) (λ q.
       let r = readable-whole w h full k mask sums squares (shape-clear w h full legal .1 .high) (good-count k (unless 3 0 (badCount k) good)) m s q in
-      rw (codes-whole w h mask m, n, p, r, m))))))
+      rw (codes-whole w h mask m, n, walked-whole w h (length mask) m, p, r, m))))))
 
   -- what is known of the sums of an accepted call
   pub record Accepted : Type 0 where
@@ -152,13 +153,13 @@ module _ (w h full k : ℕ) (mask sums squares : List ℕ) where
 
   -- what is answered of the count and the numerator that were judged
   module _ (clear : varianceVerdict w h full k mask sums squares ≡ verdict.Clear) (count p : ℕ)
-      (n : count ≡ sumTo (length mask) (one mask))
+      (n : count ≡ sumTo (walked w h (length mask)) (one mask))
       (e : p ≡ cond (readable full k (length mask) (length sums) (length squares)) (spread (length mask) k (seen mask sums) (seen mask squares)) 0) where
     known : Accepted
     known = accepted clear
 
     counted : count ≡ sumTo (sitesOf w h) (one mask)
-    counted = n ∙ ap (λ (m : ℕ). sumTo m (one mask)) (known .masked)
+    counted = n ∙ ap (λ (m : ℕ). sumTo m (one mask)) (walked-whole w h (length mask) (known .masked))
 
     numerator : p ≡ spread (sitesOf w h) k (seen mask sums) (seen mask squares)
     numerator = e ∙ rw (known .legible, known .masked)

@@ -5,6 +5,7 @@ ghost use Prim.Native.Nat.{ℕ, _+_, _-_, _*_, _^_, _≤_, _<_};
 ghost use lib.ListN.{length, getD};
 ghost use Rattle.laws.specs.First.{firstTo};
 ghost use Rattle.laws.specs.Sum.{sumTo};
+ghost use Rattle.window.specs.Judge.{walked};
 ghost use Rattle.window.specs.View.{seenAt, seen, one};
 ghost use Rattle.window.specs.Verdict.{refuseIf};
 ghost use Rattle.stack.specs.Sums.{impossible, impossibleAt, impossibleIn, squared, added, spread, readable};
@@ -202,28 +203,6 @@ fn too_few(sites: u64, frames: u64) -> bool
     sites == 0 || frames < 2
 }
 
-// How many sites of a mask no longer than a window's are surveyed.
-fn surveyed_few(mask: &[u8]) -> u16
-    requires { ⌜ length (now mask) ≤ 16384 ⌝ }
-    ensures { λ r. ⌜ r ≡ sumTo (length (now (mask .entry))) (one (now (mask .entry))) ⌝ }
-{
-    let mut count: u16 = 0;
-    for i in 0..mask.len() {
-        count += window::seen_at(mask[i], 1);
-    }
-    count
-}
-
-// How many sites are surveyed; 16 bits count a window's, in less time than 64 take.
-fn surveyed(mask: &[u8]) -> u64
-    ensures { λ r. ⌜ r ≡ sumTo (length (now (mask .entry))) (one (now (mask .entry))) ⌝ }
-{
-    if 16384 < mask.len() {
-        return window::surveyed(mask);
-    }
-    surveyed_few(mask) as u64
-}
-
 // k × q − s² at a site, or 0 where s² is the greater.
 fn excess(frames: u64, sum: u32, square: u32) -> u64
     requires { ⌜ frames ≤ 100 ⌝ }
@@ -276,7 +255,7 @@ fn judge_stack(
     count: u64,
     numerator: u64,
 ) -> Verdict
-    requires { ⌜ (count ≡ sumTo (length (now mask)) (one (now mask)))
+    requires { ⌜ (count ≡ sumTo (walked width height (length (now mask))) (one (now mask)))
         × (numerator ≡ cond (readable «full_scale» frames (length (now mask)) (length (now sums)) (length (now squares)))
         (spread (length (now mask)) frames (seen (now mask) (now sums)) (seen (now mask) (now squares))) 0) ⌝ }
     ensures { λ r. ⌜ r ≡ varianceVerdict width height «full_scale» frames (now (mask .entry)) (now (sums .entry)) (now (squares .entry)) ⌝ }
@@ -312,7 +291,7 @@ pub fn stack_variance(
     ensures answer { λ r. ⌜ r ≡ varianceAnswer width height «full_scale» frames (now (mask .entry)) (now (sums .entry)) (now (squares .entry)) ⌝ }
     ensures paper { λ r. ⌜ variancePaperOf r ≡ variancePaper width height «full_scale» frames (now (mask .entry)) (now (sums .entry)) (now (squares .entry)) ⌝ }
 {
-    let count = surveyed(mask);
+    let count = window::surveyed(width, height, mask);
     let numerator = spread(full_scale, frames, mask, sums, squares);
     match judge_stack(
         width,

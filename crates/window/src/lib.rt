@@ -97,15 +97,26 @@ fn one_at(code: u8) -> u32
     if code == 0 { 1 } else { 0 }
 }
 
-// How many sites are surveyed.
-pub fn surveyed(mask: &[u8]) -> u64
+// How many sites of a mask are surveyed that has no more than a window: 16 bits count them in less time than 64 take.
+fn surveyed_few(mask: &[u8]) -> u16
+    requires { ⌜ length (now mask) ≤ 16384 ⌝ }
     ensures { λ r. ⌜ r ≡ sumTo (length (now (mask .entry))) (one (now (mask .entry))) ⌝ }
 {
-    let mut count: u64 = 0;
+    let mut count: u16 = 0;
     for i in 0..mask.len() {
-        count += one_at(mask[i]) as u64;
+        count += seen_at(mask[i], 1);
     }
     count
+}
+
+// How many sites are surveyed, of a mask that has the window's sites; any other is not walked.
+pub fn surveyed(width: usize, height: usize, mask: &[u8]) -> u64
+    ensures { λ r. ⌜ r ≡ sumTo (walked width height (length (now (mask .entry)))) (one (now (mask .entry))) ⌝ }
+{
+    if walkable(width, height, mask.len()) == 0 {
+        return 0;
+    }
+    surveyed_few(mask) as u64
 }
 
 // The first site in row order whose code is above 3, or the number of sites.

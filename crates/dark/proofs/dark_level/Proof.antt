@@ -4,6 +4,7 @@ use mathlib.Core.Path.{_≡_, sym, ap, _∙_}
 use mir.Val.{toZ, ofZ}
 use mir.Syntax.{w64}
 use borrow.Author.Needs.{needs}
+use Rattle.window.proofs.Walks.{walked-whole}
 use Rattle.dark.proofs.Levels.{accepted, refused-is, accepted-is}
 use Rattle.dark.specs.Dark.{aboveBlack, darkVerdict}
 use Rattle.window.specs.declared.Verdict.the-variants as verdict
@@ -44,7 +45,7 @@ returns-2 c = let args = Begun (c .before) .args in
     let back : toZ w64 (ofZ w64 (c .above-black .result)) ≡ c .above-black .result = search needs in
     accepted-is _ _ _ _ _ _ (clear (c .before)) _ _
     (back ∙ c .above-black .ensures ∙ ap (λ (n : ℕ). aboveBlack n (args .black-level) (seen (args .mask .now) (args .frame .now)) (one (args .mask .now))) whole)
-    (c .before .before .before .before .surveyed .ensures ∙ ap (λ (n : ℕ). sumTo n (one (args .mask .now))) whole)
+    (c .before .before .before .before .surveyed .ensures ∙ ap (λ (n : ℕ). sumTo n (one (args .mask .now))) (walked-whole _ _ _ whole))
 
 pub dark-level-spec : {M : Type 1} → statement M
 dark-level-spec =

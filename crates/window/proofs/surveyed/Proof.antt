@@ -1,69 +1,38 @@
--- `surveyed` is right because each turn adds 1 at a surveyed site and 0 at any other.
-use Prim.Native.Nat.{ℕ, _+_, _-_, _≤_}
-use mathlib.Core.Path.{ap₂, _≡_, sym, ap, _∙_}
+-- `surveyed` is right because it counts the whole mask where that has the window's sites, and nothing otherwise.
+use Prim.Native.Nat.{ℕ}
+use mathlib.Core.Path.{sym, ap, _∙_}
 use native.Mathlib.Omega.{arith}
 use lib.ListN.{length}
 use borrow.Author.Needs.{needs}
-use Rattle.window.proofs.Views.{one-is, one-le, surveyed-few}
+use Rattle.window.proofs.Walks.{Whole, walked-some}
 use Rattle.window.specs.View.{one}
-use Rattle.laws.proofs.Sums.{sum-none, sum-more}
+use Rattle.laws.proofs.Sums.{sum-none}
 use Rattle.laws.specs.Sum.{sumTo}
 use Rattle.window.proofs.surveyed.Statement.{statement}
 use Rattle.window.proofs.surveyed.Tie as tie
 
-abbrev Inv-loop : tie.InvT-loop
-Inv-loop mask count₀ i₀ i-end count i = (i ≤ length mask) × (count ≡ sumTo i (one mask))
+abbrev Begun : tie.Else1 → tie.Start
+Begun c = c .before .before .before
 
-abbrev μ-loop : tie.MeasureT-loop
-μ-loop mask count₀ i₀ i-end count i = length mask - i
+masked : (c : tie.Else1) → Whole (Begun c .args .width) (Begun c .args .height) (length (Begun c .args .mask .now))
+masked c = walked-some _ _ _ (λ e. c .if1 .left (c .before .walkable .ensures ∙ e))
 
--- what is added is 1 or 0, as the site is surveyed or not
-counted : (c : tie.After-one-at Inv-loop μ-loop)
-    → c .one-at .result ≡ one (c .before .before .before .before .before .args .mask .now) (c .before .before .before .loop .i)
-counted c = c .one-at .ensures .0 ∙ sym (one-is _ _)
+walkable-requires : tie.Need-walkable-requires
+walkable-requires c κs = search needs
 
-loop-holds : tie.Need-loop-holds Inv-loop μ-loop
-loop-holds c = (omega arith, sum-none _)
+returns : tie.Need-returns
+returns c = sum-none (one _) ∙ ap (λ (n : ℕ). sumTo n (one (c .before .before .before .args .mask .now))) (sym (sym (c .before .walkable .ensures) ∙ c .if1 .taken))
 
-shared-slice-read-one-at : tie.Need-shared-slice-read-one-at Inv-loop μ-loop
-shared-slice-read-one-at c = omega arith
+surveyed-few-requires : tie.Need-surveyed-few-requires
+surveyed-few-requires c κs = omega (arith, masked c .holds, masked c .legal .few)
 
-one-at-requires : tie.Need-one-at-requires Inv-loop μ-loop
-one-at-requires c κs = search needs
+cast-result : tie.Need-cast-result
+cast-result c = search needs
 
-cast-count : tie.Need-cast-count Inv-loop μ-loop
-cast-count c = search needs
-
-add-count : tie.Need-add-count Inv-loop μ-loop
-add-count c = let m = c .before .before .before .before .before .args .mask .now in
-    let i = c .before .before .before .loop .i in
-    omega (arith, counted c, one-le m i, surveyed-few m i)
-
-add-i : tie.Need-add-i Inv-loop μ-loop
-add-i c = omega arith
-
-loop-less : tie.Need-loop-less Inv-loop μ-loop
-loop-less c = omega arith
-
-loop-again : tie.Need-loop-again Inv-loop μ-loop
-loop-again c = (omega arith, ap₂ (λ (x y : ℕ). x + y) (c .before .before .before .loop .inv .1) (counted c) ∙ sum-more _ _)
-
-returns : tie.Need-returns Inv-loop μ-loop
-returns c = let e : c .before .loop .i ≡ length (c .before .before .before .args .mask .now) = omega arith in
-    c .before .loop .inv .1 ∙ ap (λ (n : ℕ). sumTo n (one (c .before .before .before .args .mask .now))) e
+returns-2 : tie.Need-returns-2
+returns-2 c = c .surveyed-few .ensures
+    ∙ ap (λ (n : ℕ). sumTo n (one (Begun (c .before) .args .mask .now))) (masked (c .before) .holds ∙ sym (masked (c .before) .sites))
 
 pub surveyed-spec : {M : Type 1} → statement M
 surveyed-spec =
-    tie.close
-    (tie.spec
-    Inv-loop
-    μ-loop
-    loop-holds
-    shared-slice-read-one-at
-    one-at-requires
-    cast-count
-    add-count
-    add-i
-    loop-less
-    loop-again
-    returns)
+    tie.close (tie.spec walkable-requires returns surveyed-few-requires cast-result returns-2)

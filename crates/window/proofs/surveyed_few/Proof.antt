@@ -4,12 +4,12 @@ use mathlib.Core.Path.{ap₂, _≡_, sym, ap, _∙_}
 use native.Mathlib.Omega.{arith}
 use lib.ListN.{length}
 use borrow.Author.Needs.{needs}
 use Rattle.window.proofs.Views.{one-is, one-le, surveyed-few}
 use Rattle.window.specs.View.{one}
 use Rattle.laws.proofs.Sums.{sum-none, sum-more}
 use Rattle.laws.specs.Sum.{sumTo}
-use Rattle.stack.proofs.surveyed_few.Statement.{statement}
-use Rattle.stack.proofs.surveyed_few.Tie as tie
+use Rattle.window.proofs.surveyed_few.Statement.{statement}
+use Rattle.window.proofs.surveyed_few.Tie as tie
 
 abbrev Inv-loop : tie.InvT-loop
 Inv-loop mask count₀ i₀ i-end count i = (i ≤ length mask) × (count ≡ sumTo i (one mask))
