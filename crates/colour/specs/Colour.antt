@@ -32,7 +32,7 @@ notAbove total = not (ltZ (pos 0) total)
 abbrev pub ratio : ℤ → ℕ → Ratio
 ratio numerator denominator = record { numerator = numerator; denominator = denominator }
 
--- R/Gr = T(R) × c(Gr) over T(Gr) × c(R), and so B/Gr and Gb/Gr
+-- R/Gr = T(R) × c(Gr) over T(Gr) × c(R), and so B/Gr and Gb/Gr; after 10 T(Gr) is above 0, so its size is T(Gr) itself (law `sound-r`)
 unfoldable pub ratioOf : ℕ → Sums → Sums → Ratio
 ratioOf black colour gr =
     ratio (aboveBlack black colour *ℤ pos (gr .count)) (natAbs (aboveBlack black gr *ℤ pos (colour .count)))

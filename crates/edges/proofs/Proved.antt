@@ -1,6 +1,7 @@
 -- Every row of the table holds by computing both sides.
 use mathlib.Core.Path.{refl}
 use lib.Ieee.{round, ofBits}
+use Rattle.window.specs.Shape.{badCount, badSide, badSides, badScale, sitesOf}
 use Rattle.laws.specs.First.{firstTo}
 use Rattle.laws.specs.Greatest.{greatestTo}
 use Rattle.laws.specs.Signed.{_⊖_, sumToℤ}
@@ -8,7 +9,6 @@ use Rattle.laws.specs.Sum.{sumTo, sumIn, sumBox}
 use Rattle.laws.specs.Table.{tabulate}
 use Rattle.window.specs.Judge.{shapeOf}
 use Rattle.window.specs.Plane.{boxSum}
-use Rattle.window.specs.Shape.{badSide, badSides, badScale, sitesOf}
 use Rattle.window.specs.Verdict.{_⨟_, refuseIf, refuseFirst}
 use Rattle.window.specs.View.{seenAt, seen, one}
 use Rattle.exact.specs.Root.{root, rootTo}
@@ -21,7 +21,7 @@ use Rattle.sites.specs.Near.{nearSum}
 use Rattle.sites.specs.Find.{usedThreshold, far, foundAt, markedAt, foundCount, findVerdict, findAnswer, findMask}
 use Rattle.pattern.specs.Lines.{lineTotal}
 use Rattle.pattern.specs.Figures.{stepOf, standsOut, deviation, figuresOf}
-use Rattle.pattern.specs.Pattern.{badCount, patternVerdict, patternAnswer}
+use Rattle.pattern.specs.Pattern.{patternVerdict, patternAnswer}
 use Rattle.lines.specs.Lines.{before, after, pooled, defective, markOf, markAt}
 use Rattle.lines.specs.Marks.{linesVerdict, linesAnswer, linesBuffer}
 use Rattle.edges.specs.Table.{Edges, Beside}

@@ -24,7 +24,8 @@ abbrev pub lined : Bool → ℕ → ℕ → Lines
 lined true = columns
 lined false = rows
 
--- the line j before l, and the line j after it, of n: mirrored at the edge without repeating it, so line −1 is line 1
+-- the line j before l, and the line j after it, of n: mirrored at the edge without repeating it, so line −1 is line 1.
+-- One reflection is enough: 9 has made sure that there are more than 8 lines
 unfoldable pub before : ℕ → ℕ → ℕ
 before l j = apart l j
 

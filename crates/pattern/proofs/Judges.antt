@@ -4,24 +4,23 @@ use mathlib.Core.Bool.{Bool, false}
 use mathlib.Core.List.{List, [], _∷_}
 use mathlib.Core.Path.{_≡_, refl, sym, ap, ap₂, _∙_}
 use native.Mathlib.Omega.{arith}
-use lib.Dec.{eqb, ltb}
+use lib.Dec.{ltb}
 use lib.ListN.{length, getD}
-use borrow.Author.Tests.{eqb-true, eqb-false, ltb-false, not-false}
+use borrow.Author.Tests.{eqb-true, ltb-false, not-false}
+use Rattle.window.proofs.Sides.{frame-count, Sides, Scale, sides, scale}
+use Rattle.window.specs.Shape.{badCount, badSides, badScale, sitesOf}
 use Rattle.laws.specs.First.{someTo}
-use Rattle.laws.proofs.Cases.{neither}
 use Rattle.laws.proofs.Firsts.{first-nowhere, first-ext}
-use Rattle.window.specs.Shape.{badSides, badScale, sitesOf}
 use Rattle.window.specs.View.{badCode, surveyed, seen, above}
 use Rattle.window.specs.Verdict.{_⨟_, refuseIf, refuseFirst}
 use Rattle.window.specs.Judge.{shapeOf, otherThan, codesOf, walked}
 use Rattle.window.specs.declared.Refusal.{Refusal}
 use Rattle.window.specs.declared.Verdict.the-variants as verdict
-use Rattle.window.proofs.Sides.{Sides, Scale, sides, scale}
 use Rattle.window.proofs.Verdicts.{Tabled, test, testFirst, tabled, passed-head, passed-tail, then-same, then-clear, then-assoc, unless}
 use Rattle.window.proofs.Chains.{same-length, in-range, measured, codes-whole}
 use Rattle.window.proofs.Views.{seen-is, seen-in}
 use Rattle.pattern.specs.Lines.{Lines, lineTotal}
-use Rattle.pattern.specs.Pattern.{badCount, unsurveyed, patternVerdict, patternFigures, patternAnswer, paperOf, patternPaper}
+use Rattle.pattern.specs.Pattern.{unsurveyed, patternVerdict, patternFigures, patternAnswer, paperOf, patternPaper}
 use Rattle.pattern.specs.Walk.{lined, lineOf, held, Accepted}
 use Rattle.pattern.specs.declared.Figures.{Figures}
 use Rattle.pattern.specs.declared.Pattern.the-variants.{Measured, Refused}
@@ -37,15 +36,11 @@ all-surveyed n mask e i l =
 pub sums-seen : (n : ℕ) (mask sums : List ℕ) → someTo n (unsurveyed mask) ≡ false → (i : ℕ) → i < n → held sums i ≡ seen mask sums i
 sums-seen n mask sums e i l = sym (seen-is mask sums i ∙ seen-in (getD mask i 0) (held sums i) (all-surveyed n mask e i l))
 
--- 2 and 3 do not apply: the numbers are within their limits
+-- 2 does not apply: full scale is within its limits
 shape-scale : (w h full : ℕ) → shapeOf w h full ≡ verdict.Clear → full ≤ 4095
 unfolding shapeOf
 shape-scale w h full e =
     scale full (unless 2 0 (badScale full) (then-clear (refuseIf 1 0 (badSides w h)) (refuseIf 2 0 (badScale full)) e .1)) .high
-
-pub count-high : (k : ℕ) → badCount k ≡ false → k ≤ 100
-unfolding badCount
-count-high k e = ltb-false 100 k (neither (eqb k 0) (ltb 100 k) e .1)
 
 module _ (vertical : Bool) (w h full k : ℕ) (mask sums : List ℕ) where
   -- the code's chain: it walks whole buffers, sums without their codes, and a product that is formed only within the limits
@@ -70,7 +65,7 @@ module _ (vertical : Bool) (w h full k : ℕ) (mask sums : List ℕ) where
       (then-same (refuseIf 8 0 (someTo (sitesOf w h) (unsurveyed mask))) (λ u.
       ap (λ (n : ℕ). refuseIf 9 0 (ltb (lineOf vertical h w) 12) ⨟ refuseIf 11 0 (ltb n (sitesOf w h)))
       (first-ext (sitesOf w h) (above most (held sums)) (above (k * full) (seen mask sums))
-      (λ i j. ap₂ ltb (product (shape-scale w h full s) (count-high k (unless 3 0 (badCount k) c)))
+      (λ i j. ap₂ ltb (product (shape-scale w h full s) (frame-count k (unless 3 0 (badCount k) c) .high))
       (sums-seen (sitesOf w h) mask sums (unless 8 0 (someTo (sitesOf w h) (unsurveyed mask)) u) i j))))))))))
 
 -- the tests in the order of document 01
@@ -98,10 +93,6 @@ pub record Clean (vertical : Bool) (w h full k : ℕ) (mask sums : List ℕ) : T
   pub fair : Accepted w h full k sums
   pub whole : (i : ℕ) → i < h * w → held sums i ≡ seen mask sums i
 
-count-low : (k : ℕ) → badCount k ≡ false → 1 ≤ k
-unfolding badCount
-count-low k e = let some = eqb-false k 0 (neither (eqb k 0) (ltb 100 k) e .0) in omega arith
-
 module _ (vertical : Bool) (w h full k : ℕ) (mask sums : List ℕ) where
   pub clean : patternVerdict (lined vertical) w h full k mask sums ≡ verdict.Clear → Clean vertical w h full k mask sums
   clean e =
@@ -120,13 +111,13 @@ module _ (vertical : Bool) (w h full k : ℕ) (mask sums : List ℕ) where
       record {
         legal = legal;
         range = range;
-        some = count-low k (passed-head p₃);
+        some = frame-count k (passed-head p₃) .low;
         enough = rw (← count-is vertical w h) (ltb-false (lined vertical w h .count) 12 (passed-head (passed-tail p₈)));
         fair = record {
           wide = legal .wide .high;
           high = legal .high .high;
           scale = range .high;
-          frames = count-high k (passed-head p₃);
+          frames = frame-count k (passed-head p₃) .high;
           long = same-length n (length sums) (passed-head p₄) ∙ legal .sites;
           possible = λ i l. rw (seeing i l) (most i l);
         };

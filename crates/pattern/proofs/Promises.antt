@@ -8,9 +8,9 @@ use native.Mathlib.Omega.{arith}
 use lib.Dec.{ltb}
 use lib.IntN.{pos, natAbs}
 use lib.ListN.{length}
+use Rattle.window.specs.Shape.{badCount, badSides, badScale, sitesOf}
 use Rattle.laws.specs.First.{someTo}
 use Rattle.laws.proofs.Cases.{times-le}
-use Rattle.window.specs.Shape.{badSides, badScale, sitesOf}
 use Rattle.window.specs.View.{badCode, seen, above}
 use Rattle.window.specs.Judge.{otherThan}
 use Rattle.window.specs.declared.Verdict.{Verdict}
@@ -19,7 +19,7 @@ use Rattle.window.proofs.Verdicts.{Tabled, Refuses, test, testFirst, refuses}
 use Rattle.window.proofs.Views.{Agree, same-view}
 use Rattle.pattern.specs.Lines.{Lines, columns, rows, lineTotal}
 use Rattle.pattern.specs.Figures.{noFigures, figuresOf}
-use Rattle.pattern.specs.Pattern.{badCount, unsurveyed, patternVerdict, patternFigures, answered, patternAnswer, Paper, paperOf, patternPaper}
+use Rattle.pattern.specs.Pattern.{unsurveyed, patternVerdict, patternFigures, answered, patternAnswer, Paper, paperOf, patternPaper}
 use Rattle.pattern.specs.Walk.{lined, held}
 use Rattle.pattern.specs.declared.Figures.{Figures}
 use Rattle.pattern.specs.declared.Pattern.{Pattern}

@@ -9,13 +9,13 @@ use native.Mathlib.Omega.{arith}
 use lib.Arith.{digits-lt, digits-div, digits-mod}
 use lib.Dec.{ltb}
 use lib.ListN.{length}
+use Rattle.window.specs.Shape.{badCount, badSide, badSides, badScale, sitesOf}
 use Rattle.laws.specs.First.{firstTo, someTo}
 use Rattle.laws.specs.Table.{tabulate}
 use Rattle.laws.proofs.Cases.{true-or-false, both-ways}
 use Rattle.laws.proofs.Firsts.{some-none, nowhere-from}
 use Rattle.laws.proofs.Sums.{sum-ext}
 use Rattle.laws.proofs.Tables.{length-tabulate, getD-tabulate}
-use Rattle.window.specs.Shape.{badSide, badSides, badScale, sitesOf}
 use Rattle.window.specs.View.{badCode, surveyed, seenAt, seen, above}
 use Rattle.window.specs.Verdict.{_⨟_, refuseIf, refuseFirst, numberOf, placeOf, ifClear}
 use Rattle.window.specs.Judge.{shapeOf, otherThan}
@@ -25,7 +25,7 @@ use Rattle.window.proofs.Sides.{sides, no-sites}
 use Rattle.window.proofs.Views.{seen-is}
 use Rattle.pattern.specs.Lines.{columns, rows, lineTotal}
 use Rattle.pattern.specs.Figures.{noFigures}
-use Rattle.pattern.specs.Pattern.{badCount, unsurveyed, patternVerdict, patternFigures}
+use Rattle.pattern.specs.Pattern.{unsurveyed, patternVerdict, patternFigures}
 use Rattle.pattern.specs.Walk.{held}
 use Rattle.pattern.specs.declared.Figures.{Figures}
 use Rattle.pattern.proofs.Figuring.{figures-ext}

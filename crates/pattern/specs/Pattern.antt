@@ -1,11 +1,11 @@
 -- Document 01, "Pattern noise": what `pattern_vertical` and `pattern_horizontal` answer, by one definition over the lines.
 use Prim.Native.Nat.{ℕ, _*_}
-use mathlib.Core.Bool.{Bool, not, _||_}
+use mathlib.Core.Bool.{Bool, not}
 use mathlib.Core.List.{List}
-use lib.Dec.{eqb, ltb}
+use lib.Dec.{ltb}
 use lib.ListN.{length, getD}
 use Rattle.laws.specs.First.{someTo}
-use Rattle.window.specs.Shape.{sitesOf}
+use Rattle.window.specs.Shape.{sitesOf, badCount}
 use Rattle.window.specs.View.{surveyed, seen, above}
 use Rattle.window.specs.Verdict.{_⨟_, refuseIf, numberOf, placeOf, ifClear}
 use Rattle.window.specs.Judge.{shapeOf, otherThan, codesOf}
@@ -16,10 +16,6 @@ use Rattle.pattern.specs.Figures.{figuresOf, noFigures}
 use Rattle.pattern.specs.declared.Figures.{Figures}
 use Rattle.pattern.specs.declared.Pattern.{Pattern}
 use Rattle.pattern.specs.declared.Pattern.the-variants.{Measured, Refused}
-
--- a frame count of 0 or above 100
-unfoldable pub badCount : ℕ → Bool
-badCount k = eqb k 0 || ltb 100 k
 
 -- a code that is not 0
 abbrev pub unsurveyed : List ℕ → ℕ → Bool

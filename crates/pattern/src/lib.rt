@@ -10,7 +10,7 @@ ghost use Rattle.laws.specs.Greatest.{greater};
 ghost use Rattle.window.specs.View.{above};
 ghost use Rattle.pattern.specs.Lines.{columns, rows};
 ghost use Rattle.pattern.specs.Figures.{levelOf, standsOut, deviation, maxOf, figuresOf};
-ghost use Rattle.pattern.specs.Pattern.{badCount, unsurveyed, patternVerdict, patternFigures, patternAnswer, paperOf, patternPaper};
+ghost use Rattle.pattern.specs.Pattern.{unsurveyed, patternVerdict, patternFigures, patternAnswer, paperOf, patternPaper};
 ghost use Rattle.pattern.specs.Walk.{lined, lineOf, held, withRow, Possible, Accepted};
 use window::Refusal;
 use window::Verdict;
@@ -26,12 +26,6 @@ pub struct Figures {
 pub enum Pattern {
     Measured(Figures),
     Refused(Refusal),
-}
-
-fn bad_count(frames: u64) -> bool
-    ensures { λ r. ⌜ r ≡ badCount frames ⌝ }
-{
-    frames == 0 || 100 < frames
 }
 
 // The most that a sum can be. Of numbers that no stack has the product is not formed.
@@ -96,7 +90,7 @@ fn judge(
 {
     let n = window::sites(width, height);
     let shape = window::shape(width, height, full_scale);
-    let count = window::refuse_if(3, 0, bad_count(frames));
+    let count = window::refuse_if(3, 0, window::bad_count(frames));
     let masked = window::refuse_if(4, 0, mask.len() != n);
     let summed = window::refuse_if(4, 0, sums.len() != n);
     let codes = window::codes(width, height, mask);

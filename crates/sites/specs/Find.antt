@@ -11,7 +11,6 @@ use Rattle.window.specs.Shape.{sitesOf}
 use Rattle.window.specs.View.{seenAt, seen, one}
 use Rattle.window.specs.Verdict.{_⨟_, refuseIf, numberOf, placeOf, ifClear}
 use Rattle.window.specs.Judge.{shapeOf, otherThan, codesOf, samplesOf}
-use Rattle.window.specs.declared.Refusal.{Refusal}
 use Rattle.window.specs.declared.Verdict.{Verdict}
 use Rattle.window.specs.declared.Verdict.the-variants as verdict
 use Rattle.sites.specs.Near.{nearSum, Counted, counted}

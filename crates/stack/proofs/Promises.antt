@@ -9,23 +9,23 @@ use lib.Dec.{leb}
 use lib.Ieee.{binary64, ofBits}
 use lib.ListN.{length, getD, replicate, length-replicate}
 use borrow.Author.Tests.{lt-leb}
+use Rattle.window.proofs.Sides.{frame-count, scale, sites-few}
+use Rattle.window.specs.Shape.{badCount, badScale, sitesOf}
 use Rattle.laws.specs.Sum.{sumTo}
 use Rattle.laws.proofs.Tables.{getD-tabulate}
 use Rattle.exact.specs.Quotient.{floatZero}
 use Rattle.exact.proofs.Quotients.{quotient-zero}
-use Rattle.window.specs.Shape.{badScale, sitesOf}
 use Rattle.window.specs.View.{surveyed, seen, one}
 use Rattle.window.specs.Verdict.{_⨟_, refuseIf, ifClear}
 use Rattle.window.specs.Judge.{shapeOf, otherThan, codesOf}
 use Rattle.window.specs.declared.Verdict.{Verdict}
 use Rattle.window.specs.declared.Verdict.the-variants as verdict
-use Rattle.window.proofs.Sides.{scale, sites-few}
 use Rattle.window.proofs.Verdicts.{Tabled, Refuses, refuses, then-same, then-end, unless}
 use Rattle.window.proofs.Views.{Agree, same-view, seen-is, seen-in, seen-out}
 use Rattle.window.proofs.Chains.{shape-clear}
 use Rattle.stack.specs.Sums.{impossibleIn, squared, added, spread}
 use Rattle.stack.specs.Add.{addVerdict, addAnswer, addPaper, addSums, addSquares}
-use Rattle.stack.specs.Variance.{badCount, tooFew, varianceVerdict, varianceAnswer, variancePaper}
+use Rattle.stack.specs.Variance.{tooFew, varianceVerdict, varianceAnswer, variancePaper}
 use Rattle.stack.specs.Run.{Stack, run, runVerdict, overFrames}
 use Rattle.stack.specs.declared.Added.{Added}
 use Rattle.stack.specs.declared.Variance.{Variance}
@@ -152,7 +152,7 @@ module _ (w h full k : ℕ) (mask sums squares : List ℕ) where
       then-same (codesOf (sitesOf w h) mask) (λ _.
       then-same (refuseIf 7 0 (tooFew (sumTo (sitesOf w h) (one mask)) k)) (λ _.
       then-same (refuseIf 11 0 (impossibleIn (sitesOf w h) full k (seen mask sums) (seen mask squares))) (λ odd.
-      unmet (shape-clear w h full legal .1 .high) (variances.good-count k (unless 3 0 (badCount k) good)) (unless 11 0 (impossibleIn (sitesOf w h) full k (seen mask sums) (seen mask squares)) odd))
+      unmet (shape-clear w h full legal .1 .high) (frame-count k (unless 3 0 (badCount k) good) .high) (unless 11 0 (impossibleIn (sitesOf w h) full k (seen mask sums) (seen mask squares)) odd))
       ∙ then-end (refuseIf 11 0 (impossibleIn (sitesOf w h) full k (seen mask sums) (seen mask squares))))))))))
 
 -- ---- runs of frames, from zero sums, with one window, full scale and mask

@@ -10,6 +10,7 @@ use native.Mathlib.Omega.{arith}
 use lib.Dec.{ltb}
 use lib.ListN.{length, getD, replicate}
 use borrow.Author.Tests.{le-ltb, eq-eqb, ne-eqb, lt-leb, eqb-true, eqb-false}
+use Rattle.window.specs.Shape.{badCount, badSides, badScale, sitesOf}
 use Rattle.laws.specs.First.{firstTo}
 use Rattle.laws.specs.Sum.{sumTo}
 use Rattle.laws.specs.Table.{tabulate}
@@ -17,7 +18,6 @@ use Rattle.laws.proofs.Cases.{true-or-false}
 use Rattle.laws.proofs.Firsts.{nowhere-first}
 use Rattle.laws.proofs.Sums.{sum-ext, sum-zero}
 use Rattle.laws.proofs.Tables.{length-tabulate, getD-tabulate, tabulate-ext}
-use Rattle.window.specs.Shape.{badSides, badScale, sitesOf}
 use Rattle.window.specs.View.{badCode, above, surveyed, seen, one}
 use Rattle.window.specs.Verdict.{_⨟_}
 use Rattle.window.specs.Judge.{otherThan}
@@ -28,7 +28,7 @@ use Rattle.window.proofs.Views.{seen-is, seen-in, seen-out}
 use Rattle.window.proofs.Chains.{legal-codes}
 use Rattle.stack.specs.Sums.{impossibleAt, impossibleIn, squared, added, spread}
 use Rattle.stack.specs.Add.{addVerdict, addSums, addSquares}
-use Rattle.stack.specs.Variance.{badCount, tooFew, varianceVerdict}
+use Rattle.stack.specs.Variance.{tooFew, varianceVerdict}
 use Rattle.stack.specs.Run.{Stack, offered, run, runVerdict, overFrames}
 use Rattle.stack.proofs.Sites.{Possible, is-possible, possible-none, possible-more}
 use Rattle.stack.proofs.Adds as adds

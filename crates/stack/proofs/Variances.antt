@@ -9,32 +9,28 @@ use lib.Dec.{eqb, ltb, leb}
 use lib.Ieee.{Float}
 use lib.ListN.{length}
 use borrow.Author.Tests.{ltb-false, eqb-false}
+use Rattle.window.proofs.Sides.{frame-count, scale, sites-few}
+use Rattle.window.specs.Shape.{badCount, badSides, badScale, sitesOf}
 use Rattle.window.proofs.Walks.{walked-whole}
 use Rattle.laws.specs.Sum.{sumTo}
 use Rattle.laws.proofs.Cases.{neither, times-le}
 use Rattle.laws.proofs.Sums.{sum-le}
 use Rattle.exact.specs.Quotient.{quotientOrZero}
 use Rattle.exact.proofs.Quotients.{Ranged, ranged-quotient}
-use Rattle.window.specs.Shape.{badSides, badScale, sitesOf}
 use Rattle.window.specs.View.{badCode, seen, one}
 use Rattle.window.specs.Verdict.{_⨟_, refuseIf, refuseFirst}
 use Rattle.window.specs.Judge.{shapeOf, otherThan, codesOf, walked}
 use Rattle.window.specs.declared.Refusal.{Refusal}
 use Rattle.window.specs.declared.Verdict.the-variants as verdict
-use Rattle.window.proofs.Sides.{scale, sites-few}
 use Rattle.window.proofs.Verdicts.{Test, Tabled, test, testFirst, tabled, passed-head, passed-tail, then-same, unless}
 use Rattle.window.proofs.Views.{surveyed-few}
 use Rattle.window.proofs.Chains.{shape-then, shape-clear, same-length, measured, codes-whole}
 use Rattle.stack.specs.Sums.{impossibleIn, spread, readable}
-use Rattle.stack.specs.Variance.{badCount, tooFew, varianceVerdict, varianceAnswer, variancePaperOf, variancePaper}
+use Rattle.stack.specs.Variance.{tooFew, varianceVerdict, varianceAnswer, variancePaperOf, variancePaper}
 use Rattle.stack.specs.declared.Variance.the-variants.{Figures, Refused}
 use Rattle.stack.proofs.Sites.{Possible, readable-whole, all-possible}
 
--- 3 and 7 do not apply
-pub good-count : (k : ℕ) → badCount k ≡ false → k ≤ 100
-unfolding badCount
-good-count k e = ltb-false 100 k (neither (eqb k 0) (ltb 100 k) e .1)
-
+-- 7 does not apply
 pub enough : (n k : ℕ) → tooFew n k ≡ false → (0 < n) × (2 ≤ k)
 unfolding tooFew
 enough n k e =
@@ -95,7 +91,7 @@ module _ (w h full k : ℕ) (mask sums squares : List ℕ) where
       then-same (shapeOf w h full) (λ legal. then-same (refuseIf 3 0 (badCount k)) (λ good.
       measured (sitesOf w h) (length mask) (λ m.
       measured (sitesOf w h) (length sums) (λ s. measured (sitesOf w h) (length squares) (λ q.
-      let r = readable-whole w h full k mask sums squares (shape-clear w h full legal .1 .high) (good-count k (unless 3 0 (badCount k) good)) m s q in
+      let r = readable-whole w h full k mask sums squares (shape-clear w h full legal .1 .high) (frame-count k (unless 3 0 (badCount k) good) .high) m s q in
       rw (codes-whole w h mask m, n, walked-whole w h (length mask) m, p, r, m))))))
 
   -- what is known of the sums of an accepted call
@@ -119,7 +115,7 @@ module _ (w h full k : ℕ) (mask sums squares : List ℕ) where
       let n = sitesOf w h in
       let m = same-length n (length mask) (passed-head p₄) in
       let bright = scale full (passed-head p₂) .high in
-      let most = good-count k (passed-head p₃) in
+      let most = frame-count k (passed-head p₃) .high in
       let both = enough (sumTo n (one mask)) k (passed-head p₇) in
       record {
         masked = m;

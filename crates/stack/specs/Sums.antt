@@ -4,7 +4,7 @@ use mathlib.Core.Bool.{Bool, _||_, _&&_}
 use mathlib.Core.List.{List}
 use lib.Dec.{eqb, ltb, leb}
 use lib.ListN.{length, getD}
-use Rattle.laws.specs.First.{firstTo}
+use Rattle.laws.specs.First.{someTo}
 use Rattle.laws.specs.Sum.{sumTo}
 use Rattle.laws.specs.Table.{tabulate}
 
@@ -12,12 +12,13 @@ use Rattle.laws.specs.Table.{tabulate}
 unfoldable pub impossible : ℕ → ℕ → ℕ → ℕ → Bool
 impossible full k s q = ltb (k * full) s || (ltb (k * (full * full)) q || ltb (k * q) (s * s))
 
--- 11: the sums that are seen at a site cannot come from the frame count, at some of n sites
+-- the sums that are seen at a site cannot come from the frame count
 abbrev pub impossibleAt : ℕ → ℕ → (ℕ → ℕ) → (ℕ → ℕ) → ℕ → Bool
 impossibleAt full k s q i = impossible full k (s i) (q i)
 
+-- 11: at some of n sites
 unfoldable pub impossibleIn : ℕ → ℕ → ℕ → (ℕ → ℕ) → (ℕ → ℕ) → Bool
-impossibleIn n full k s q = ltb (firstTo n (impossibleAt full k s q)) n
+impossibleIn n full k s q = someTo n (impossibleAt full k s q)
 
 -- the square of what is seen
 abbrev pub squared : (ℕ → ℕ) → ℕ → ℕ

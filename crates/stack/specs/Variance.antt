@@ -7,7 +7,7 @@ use lib.Ieee.{Float, binary64, ofBits}
 use lib.ListN.{length}
 use Rattle.laws.specs.Sum.{sumTo}
 use Rattle.exact.specs.Quotient.{quotient}
-use Rattle.window.specs.Shape.{sitesOf}
+use Rattle.window.specs.Shape.{sitesOf, badCount}
 use Rattle.window.specs.View.{seen, one}
 use Rattle.window.specs.Verdict.{_⨟_, refuseIf, numberOf, placeOf, ifClear}
 use Rattle.window.specs.Judge.{shapeOf, otherThan, codesOf}
@@ -16,10 +16,6 @@ use Rattle.window.specs.declared.Verdict.the-variants as verdict
 use Rattle.stack.specs.Sums.{impossibleIn, spread}
 use Rattle.stack.specs.declared.Variance.{Variance}
 use Rattle.stack.specs.declared.Variance.the-variants.{Figures, Refused}
-
--- 3: a frame count of 0 or above 100
-unfoldable pub badCount : ℕ → Bool
-badCount k = eqb k 0 || ltb 100 k
 
 -- 7: no surveyed site, or fewer than 2 frames
 unfoldable pub tooFew : ℕ → ℕ → Bool

@@ -9,7 +9,7 @@ ghost use Rattle.window.specs.Judge.{walked};
 ghost use Rattle.window.specs.View.{seenAt, seen, one};
 ghost use Rattle.window.specs.Verdict.{refuseIf};
 ghost use Rattle.stack.specs.Sums.{impossible, impossibleAt, impossibleIn, squared, added, spread, readable};
-ghost use Rattle.stack.specs.Variance.{badCount, tooFew, varianceVerdict, varianceAnswer, variancePaperOf, variancePaper};
+ghost use Rattle.stack.specs.Variance.{tooFew, varianceVerdict, varianceAnswer, variancePaperOf, variancePaper};
 ghost use Rattle.stack.specs.Add.{addVerdict, addAnswer, addPaperOf, addPaper, addSums, addSquares};
 use window::Refusal;
 use window::Verdict;
@@ -191,12 +191,6 @@ pub fn stack_add(
     }
 }
 
-fn bad_count(frames: u64) -> bool
-    ensures { λ r. ⌜ r ≡ badCount frames ⌝ }
-{
-    frames == 0 || 100 < frames
-}
-
 fn too_few(sites: u64, frames: u64) -> bool
     ensures { λ r. ⌜ r ≡ tooFew sites frames ⌝ }
 {
@@ -262,7 +256,7 @@ fn judge_stack(
 {
     let n = window::sites(width, height);
     let shape = window::shape(width, height, full_scale);
-    let bad = window::refuse_if(3, 0, bad_count(frames));
+    let bad = window::refuse_if(3, 0, window::bad_count(frames));
     let mask_long = window::refuse_if(4, 0, mask.len() != n);
     let sums_long = window::refuse_if(4, 0, sums.len() != n);
     let squares_long = window::refuse_if(4, 0, squares.len() != n);

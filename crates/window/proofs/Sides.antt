@@ -1,4 +1,4 @@
--- What legal sides and a legal full scale are, and how many sites they make.
+-- What legal sides, a legal full scale and a legal count of frames are, and how many sites the sides make.
 use Prim.Native.Nat.{ℕ, _*_, _%_, _≤_, _<_}
 use mathlib.Core.Bool.{true, false, not, _||_}
 use mathlib.Core.Logic.{⊎-elim}
@@ -8,7 +8,7 @@ use native.Mathlib.Omega.{arith}
 use lib.Dec.{eqb, ltb}
 use borrow.Author.Tests.{ltb-false, eqb-true, eqb-false, not-false}
 use Rattle.laws.proofs.Cases.{neither, true-or-false}
-use Rattle.window.specs.Shape.{badSide, badSides, badScale, sitesOf}
+use Rattle.window.specs.Shape.{badSide, badSides, badScale, sitesOf, badCount}
 
 pub record Side (n : ℕ) : Type 0 where
   pub even : n % 2 ≡ 0
@@ -56,6 +56,17 @@ sites-few w h =
     (λ e. omega (arith, no-sites w h e))
     (λ e. let s = sides w h e in omega (arith, s .sites))
     (true-or-false (badSides w h))
+
+pub record Count (k : ℕ) : Type 0 where
+  pub low : 1 ≤ k
+  pub high : k ≤ 100
+
+pub frame-count : (k : ℕ) → badCount k ≡ false → Count k
+unfolding badCount
+frame-count k e =
+    let out = neither (eqb k 0) (ltb 100 k) e in
+    let some = eqb-false k 0 (out .0) in
+    record { low = omega arith; high = ltb-false 100 k (out .1) }
 
 pub record Scale (full : ℕ) : Type 0 where
   pub low : 1 ≤ full

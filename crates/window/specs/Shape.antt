@@ -1,4 +1,4 @@
--- Document 01, "What the bench does": the sides of a window and its full scale.
+-- Document 01, "What the bench does", "Stack": the sides of a window, its full scale, and a stack's count of frames.
 use Prim.Native.Nat.{ℕ, _*_, _%_}
 use mathlib.Core.Bool.{Bool, not, cond, _||_}
 use lib.Dec.{eqb, ltb}
@@ -13,6 +13,10 @@ badSides w h = badSide w || badSide h
 -- not in 1..4095
 unfoldable pub badScale : ℕ → Bool
 badScale full = eqb full 0 || ltb 4095 full
+
+-- a frame count that no figure of a stack has: 0, or above 100
+unfoldable pub badCount : ℕ → Bool
+badCount k = eqb k 0 || ltb 100 k
 
 -- how many sites a window has; sides that no window has make none
 unfoldable pub sitesOf : ℕ → ℕ → ℕ

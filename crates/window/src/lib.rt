@@ -4,7 +4,7 @@ ghost use Prim.Native.Nat.{ℕ, _+_, _*_, _/_, _≤_, _<_, min};
 ghost use lib.ListN.{length};
 ghost use Rattle.laws.specs.First.{firstTo};
 ghost use Rattle.laws.specs.Sum.{sumTo, sumIn, sumBox};
-ghost use Rattle.window.specs.Shape.{badSide, badSides, badScale, sitesOf};
+ghost use Rattle.window.specs.Shape.{badSide, badSides, badScale, badCount, sitesOf};
 ghost use Rattle.window.specs.View.{badCode, seenAt, seen, one, above};
 ghost use Rattle.window.specs.Verdict.{_⨟_, refuseIf};
 ghost use Rattle.window.specs.Judge.{shapeOf, codesOf, samplesOf, walked};
@@ -63,6 +63,12 @@ fn bad_scale(full_scale: u64) -> bool
     ensures { λ r. ⌜ r ≡ badScale «full_scale» ⌝ }
 {
     full_scale == 0 || 4095 < full_scale
+}
+
+pub fn bad_count(frames: u64) -> bool
+    ensures { λ r. ⌜ r ≡ badCount frames ⌝ }
+{
+    frames == 0 || 100 < frames
 }
 
 // How many sites a window has. Sides that no window has make none, so their product is never formed.

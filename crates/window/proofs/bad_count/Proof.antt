@@ -1,8 +1,8 @@
 -- `bad_count` is right because its two tests are the definition's.
 use borrow.Author.Tests.{eq-eqb, ne-eqb}
-use Rattle.stack.specs.Variance.{badCount}
-use Rattle.stack.proofs.bad_count.Statement.{statement}
-use Rattle.stack.proofs.bad_count.Tie as tie
+use Rattle.window.specs.Shape.{badCount}
+use Rattle.window.proofs.bad_count.Statement.{statement}
+use Rattle.window.proofs.bad_count.Tie as tie
 
 returns : tie.Need-returns
 unfolding badCount
