@@ -16,8 +16,8 @@ use Rattle.window.specs.Verdict.{_⨟_, refuseIf, refuseFirst}
 use Rattle.window.specs.Judge.{shapeOf, otherThan, codesOf, walked}
 use Rattle.window.specs.declared.Refusal.{Refusal}
 use Rattle.window.specs.declared.Verdict.the-variants as verdict
-use Rattle.window.proofs.Verdicts.{Tabled, test, testFirst, tabled, passed-head, passed-tail, then-same, then-clear, then-assoc, unless}
-use Rattle.window.proofs.Chains.{same-length, in-range, measured, codes-whole}
+use Rattle.window.proofs.Verdicts.{Test, Tabled, test, testFirst, tabled, passed-head, passed-tail, then-same, unless}
+use Rattle.window.proofs.Chains.{shape-then, shape-clear, same-length, in-range, measured, codes-whole}
 use Rattle.window.proofs.Views.{seen-is, seen-in}
 use Rattle.pattern.specs.Lines.{Lines, lineTotal}
 use Rattle.pattern.specs.Pattern.{unsurveyed, patternVerdict, patternFigures, patternAnswer, paperOf, patternPaper}
@@ -35,12 +35,6 @@ all-surveyed n mask e i l =
 -- so every sum is seen
 pub sums-seen : (n : ℕ) (mask sums : List ℕ) → someTo n (unsurveyed mask) ≡ false → (i : ℕ) → i < n → held sums i ≡ seen mask sums i
 sums-seen n mask sums e i l = sym (seen-is mask sums i ∙ seen-in (getD mask i 0) (held sums i) (all-surveyed n mask e i l))
-
--- 2 does not apply: full scale is within its limits
-shape-scale : (w h full : ℕ) → shapeOf w h full ≡ verdict.Clear → full ≤ 4095
-unfolding shapeOf
-shape-scale w h full e =
-    scale full (unless 2 0 (badScale full) (then-clear (refuseIf 1 0 (badSides w h)) (refuseIf 2 0 (badScale full)) e .1)) .high
 
 module _ (vertical : Bool) (w h full k : ℕ) (mask sums : List ℕ) where
   -- the code's chain: it walks whole buffers, sums without their codes, and a product that is formed only within the limits
@@ -65,24 +59,27 @@ module _ (vertical : Bool) (w h full k : ℕ) (mask sums : List ℕ) where
       (then-same (refuseIf 8 0 (someTo (sitesOf w h) (unsurveyed mask))) (λ u.
       ap (λ (n : ℕ). refuseIf 9 0 (ltb (lineOf vertical h w) 12) ⨟ refuseIf 11 0 (ltb n (sitesOf w h)))
       (first-ext (sitesOf w h) (above most (held sums)) (above (k * full) (seen mask sums))
-      (λ i j. ap₂ ltb (product (shape-scale w h full s) (frame-count k (unless 3 0 (badCount k) c) .high))
+      (λ i j. ap₂ ltb (product (shape-clear w h full s .1 .high) (frame-count k (unless 3 0 (badCount k) c) .high))
       (sums-seen (sitesOf w h) mask sums (unless 8 0 (someTo (sitesOf w h) (unsurveyed mask)) u) i j))))))))))
 
--- the tests in the order of document 01
-pub table : (lines : ℕ → ℕ → Lines) (w h full k : ℕ) (mask sums : List ℕ)
-    → Tabled (patternVerdict lines w h full k mask sums)
-    (test 1 0 (badSides w h)
-    ∷ test 2 0 (badScale full)
-    ∷ test 3 0 (badCount k)
-    ∷ test 4 0 (otherThan (sitesOf w h) (length mask))
-    ∷ test 4 0 (otherThan (sitesOf w h) (length sums))
-    ∷ testFirst 5 (sitesOf w h) (badCode mask)
-    ∷ test 8 0 (someTo (sitesOf w h) (unsurveyed mask))
-    ∷ test 9 0 (ltb (lines w h .count) 12)
-    ∷ test 11 0 (someTo (sitesOf w h) (above (k * full) (seen mask sums)))
-    ∷ [])
-unfolding patternVerdict shapeOf refuseFirst
-table lines w h full k mask sums = rw (then-assoc (refuseIf 1 0 (badSides w h)) (refuseIf 2 0 (badScale full))) (tabled _ _)
+module _ (lines : ℕ → ℕ → Lines) (w h full k : ℕ) (mask sums : List ℕ) where
+  -- the tests in the order of document 01
+  abbrev pub tests : List Test
+  tests =
+      test 1 0 (badSides w h)
+      ∷ test 2 0 (badScale full)
+      ∷ test 3 0 (badCount k)
+      ∷ test 4 0 (otherThan (sitesOf w h) (length mask))
+      ∷ test 4 0 (otherThan (sitesOf w h) (length sums))
+      ∷ testFirst 5 (sitesOf w h) (badCode mask)
+      ∷ test 8 0 (someTo (sitesOf w h) (unsurveyed mask))
+      ∷ test 9 0 (ltb (lines w h .count) 12)
+      ∷ test 11 0 (someTo (sitesOf w h) (above (k * full) (seen mask sums)))
+      ∷ []
+
+  pub table : Tabled (patternVerdict lines w h full k mask sums) tests
+  unfolding patternVerdict refuseFirst
+  table = rw shape-then (tabled _ _)
 
 -- what an accepted call has passed
 pub record Clean (vertical : Bool) (w h full k : ℕ) (mask sums : List ℕ) : Type 0 where

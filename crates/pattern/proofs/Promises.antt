@@ -1,32 +1,27 @@
 -- What is promised of `pattern_vertical` and `pattern_horizontal`, for any numbers, any mask and any sums.
 use Prim.Native.Nat.{ℕ, _-_, _*_, _<_, _≤_}
 use mathlib.Core.Bool.{Bool, false}
-use mathlib.Core.List.{List, [], _∷_}
+use mathlib.Core.List.{List}
 use mathlib.Core.Path.{_≡_, refl, sym, ap, _∙_}
 use native.Mathlib.Nat.{mul-assoc}
 use native.Mathlib.Omega.{arith}
-use lib.Dec.{ltb}
 use lib.IntN.{pos, natAbs}
-use lib.ListN.{length}
-use Rattle.window.specs.Shape.{badCount, badSides, badScale, sitesOf}
-use Rattle.laws.specs.First.{someTo}
 use Rattle.laws.proofs.Cases.{times-le}
-use Rattle.window.specs.View.{badCode, seen, above}
-use Rattle.window.specs.Judge.{otherThan}
+use Rattle.window.specs.View.{seen}
 use Rattle.window.specs.declared.Verdict.{Verdict}
 use Rattle.window.specs.declared.Verdict.the-variants as verdict
-use Rattle.window.proofs.Verdicts.{Tabled, Refuses, test, testFirst, refuses}
+use Rattle.window.proofs.Verdicts.{Tabled, Refuses, refuses}
 use Rattle.window.proofs.Views.{Agree, same-view}
 use Rattle.pattern.specs.Lines.{Lines, columns, rows, lineTotal}
 use Rattle.pattern.specs.Figures.{noFigures, figuresOf}
-use Rattle.pattern.specs.Pattern.{unsurveyed, patternVerdict, patternFigures, answered, patternAnswer, Paper, paperOf, patternPaper}
+use Rattle.pattern.specs.Pattern.{patternVerdict, patternFigures, answered, patternAnswer, Paper, paperOf, patternPaper}
 use Rattle.pattern.specs.Walk.{lined, held}
 use Rattle.pattern.specs.declared.Figures.{Figures}
 use Rattle.pattern.specs.declared.Pattern.{Pattern}
 use Rattle.pattern.specs.declared.Pattern.the-variants.{Measured, Refused}
 use Rattle.pattern.proofs.Totals.{count-is, long-is, side-le, side-ge, total-le, total-flat}
 use Rattle.pattern.proofs.Figuring.{level-le, max-le, level-flat, max-flat}
-use Rattle.pattern.proofs.Judges.{Clean, table, clean, figures-seen}
+use Rattle.pattern.proofs.Judges.{Clean, tests, table, clean, figures-seen}
 use Rattle.pattern.proofs.Measures.{unit-le}
 use Rattle.pattern.proofs.Turns.{Turned, verdict-turned, figures-turned}
 
@@ -42,19 +37,8 @@ module _ (lines : ℕ → ℕ → Lines) (w h full k : ℕ) (mask : List ℕ) wh
   unfolding patternAnswer patternVerdict
   blind a = rw (a .long, same-view a)
 
-  -- given: 1, 2, 3, 4, 5, 8, 9 and 11 exactly as document 01 tables them, in that order
-  pub given : (sums : List ℕ)
-      → Tabled (patternVerdict lines w h full k mask sums)
-      (test 1 0 (badSides w h)
-      ∷ test 2 0 (badScale full)
-      ∷ test 3 0 (badCount k)
-      ∷ test 4 0 (otherThan (sitesOf w h) (length mask))
-      ∷ test 4 0 (otherThan (sitesOf w h) (length sums))
-      ∷ testFirst 5 (sitesOf w h) (badCode mask)
-      ∷ test 8 0 (someTo (sitesOf w h) (unsurveyed mask))
-      ∷ test 9 0 (ltb (lines w h .count) 12)
-      ∷ test 11 0 (someTo (sitesOf w h) (above (k * full) (seen mask sums)))
-      ∷ [])
+  -- given: 1, 2, 3, 4, 5, 8, 9 and 11 exactly as document 01 tables them, in that order (`tests` has the table)
+  pub given : (sums : List ℕ) → Tabled (patternVerdict lines w h full k mask sums) (tests lines w h full k mask sums)
   given sums = table lines w h full k mask sums
 
   -- refused: where the number is not 0 every figure is 0, and where it is 0 so is the place
