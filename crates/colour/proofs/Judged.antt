@@ -2,7 +2,7 @@
 use Prim.Native.Nat.{ℕ, min, _*_, _/_, _≤_, _<_}
 use mathlib.Core.Bool.{false, _||_}
 use mathlib.Core.List.{List, [], _∷_}
-use mathlib.Core.Path.{_≡_, refl, _∙_}
+use mathlib.Core.Path.{_≡_, refl, ap, _∙_}
 use native.Mathlib.Nat.{le-trans}
 use native.Mathlib.Omega.{arith}
 use lib.Dec.{eqb, ltb}
@@ -18,12 +18,12 @@ use Rattle.window.specs.declared.Refusal.{Refusal}
 use Rattle.window.specs.declared.Sums.{Sums}
 use Rattle.window.specs.declared.Verdict.{Verdict}
 use Rattle.window.specs.declared.Verdict.the-variants as verdict
-use Rattle.window.proofs.Sides.{Sides, sides, scale}
-use Rattle.window.proofs.Verdicts.{Test, Tabled, test, testFirst, tabled, passed-head, passed-tail, then-same}
-use Rattle.window.proofs.Chains.{shape-then, shape-clear, same-length, in-range, measured, codes-whole, samples-whole}
+use Rattle.window.proofs.Sides.{Sides}
+use Rattle.window.proofs.Verdicts.{Test, Tabled, test, testFirst, tabled, then-same, then-clear, then-assoc, unless}
+use Rattle.window.proofs.Chains.{shape-clear, same-length, in-range, measured, codes-whole, samples-whole}
 use Rattle.colour.specs.Bayer.{mosaicOf, centresOf}
 use Rattle.colour.specs.Centre.{centreOf, tooSmall, centreSums, someEmpty}
-use Rattle.colour.specs.Colour.{aboveBlack, notAbove, ratioOf, centresSeen, colourVerdict, answered, colourAnswer, paperOf, colourPaper}
+use Rattle.colour.specs.Colour.{aboveBlack, notAbove, ratioOf, centresSeen, frameVerdict, centresVerdict, colourVerdict, answered, colourAnswer, paperOf, colourPaper}
 use Rattle.colour.specs.declared.Centres.{Centres}
 use Rattle.colour.specs.declared.Ratio.{Ratio}
 use Rattle.colour.specs.declared.Colour.the-variants.{OverGr, Refused}
@@ -79,35 +79,68 @@ module _ (w h full black order : ℕ) (mask frame : List ℕ) where
       ∷ []
 
   pub table : Tabled (colourVerdict w h full black order mask frame) tests
-  unfolding colourVerdict refuseFirst
-  table = rw shape-then (tabled _ _)
+  unfolding colourVerdict frameVerdict shapeOf refuseFirst
+  table = simp then-assoc (tabled _ _)
+
+  -- 1 to 6 come first
+  pub frame-then : (v : Verdict) → frameVerdict w h full black order mask frame ⨟ v
+      ≡ shapeOf w h full
+      ⨟ refuseIf 3 0 (ltb full black)
+      ⨟ refuseIf 3 0 (ltb 3 order)
+      ⨟ refuseIf 4 0 (otherThan (sitesOf w h) (length mask))
+      ⨟ refuseIf 4 0 (otherThan (sitesOf w h) (length frame))
+      ⨟ codesOf (sitesOf w h) mask
+      ⨟ samplesOf (sitesOf w h) full (seen mask frame)
+      ⨟ v
+  unfolding frameVerdict
+  frame-then v = simp then-assoc refl
 
   -- what is judged of buffers of another length does not matter: 4 comes first
-  pub judged : (shown : Centres) → shown ≡ centresOf order (λ (plane : ℕ). boxSums w h plane (centreOf w h) mask frame)
-      → shapeOf w h full
+  pub judged : shapeOf w h full
       ⨟ refuseIf 3 0 (ltb full black)
       ⨟ refuseIf 3 0 (ltb 3 order)
       ⨟ refuseIf 4 0 (otherThan (sitesOf w h) (length mask))
       ⨟ refuseIf 4 0 (otherThan (sitesOf w h) (length frame))
       ⨟ codesOf (walked w h (length mask)) mask
       ⨟ samplesOf (min (walked w h (length mask)) (walked w h (length frame))) full (seen mask frame)
-      ⨟ refuseIf 9 0 (tooSmall w h)
-      ⨟ refuseIf 7 0 (someEmpty shown)
-      ⨟ refuseIf 10 0 (notAbove (aboveBlack black (shown .gr)))
-      ≡ colourVerdict w h full black order mask frame
-  unfolding colourVerdict
-  judged shown p =
-      then-same (shapeOf w h full) (λ c. then-same (refuseIf 3 0 (ltb full black)) (λ _. then-same (refuseIf 3 0 (ltb 3 order)) (λ _.
+      ≡ frameVerdict w h full black order mask frame
+  unfolding frameVerdict
+  judged =
+      then-same (shapeOf w h full) (λ _. then-same (refuseIf 3 0 (ltb full black)) (λ _. then-same (refuseIf 3 0 (ltb 3 order)) (λ _.
       measured (sitesOf w h) (length mask) (λ e. measured (sitesOf w h) (length frame) (λ f.
-      rw (codes-whole w h mask e, samples-whole w h full mask frame e f, p ∙ shown-whole w h order mask frame (shape-clear w h full c .0) e f))))))
+      rw (codes-whole w h mask e, samples-whole w h full mask frame e f))))))
 
-  -- what an accepted call has
-  pub record Accepted : Type 0 where
+  -- what is lent where 1 to 6 refuse nothing
+  pub record Lent : Type 0 where
     pub legal : Sides w h
     pub masked : length mask ≡ sitesOf w h
     pub framed : length frame ≡ sitesOf w h
     pub scale : full ≤ 4095
     pub dark : black ≤ full
+    pub low : (i : ℕ) → i < sitesOf w h → seen mask frame i ≤ full
+
+  pub lent : frameVerdict w h full black order mask frame ≡ verdict.Clear → Lent
+  unfolding frameVerdict refuseFirst
+  lent e =
+      let n = sitesOf w h in
+      let shape = then-clear _ _ e in
+      let dark = then-clear _ _ (shape .1) in
+      let ordered = then-clear _ _ (dark .1) in
+      let masked = then-clear _ _ (ordered .1) in
+      let framed = then-clear _ _ (masked .1) in
+      let coded = then-clear _ _ (framed .1) in
+      record {
+        legal = shape-clear w h full (shape .0) .0;
+        masked = same-length n (length mask) (unless 4 0 (otherThan n (length mask)) (masked .0));
+        framed = same-length n (length frame) (unless 4 0 (otherThan n (length frame)) (framed .0));
+        scale = shape-clear w h full (shape .0) .1 .high;
+        dark = ltb-false full black (unless 3 0 (ltb full black) (dark .0));
+        low = in-range n full (seen mask frame) (unless 6 _ _ (coded .1));
+      }
+
+  -- what an accepted call has
+  pub record Accepted : Type 0 where
+    pub of : Lent
     pub wide : 32 ≤ w / 2
     pub high : 24 ≤ h / 2
     pub r : Lit full (centresSeen w h order mask frame .r)
@@ -117,35 +150,42 @@ module _ (w h full black order : ℕ) (mask frame : List ℕ) where
     pub bright : black * centresSeen w h order mask frame .gr .count < centresSeen w h order mask frame .gr .total
 
   pub accepted : colourVerdict w h full black order mask frame ≡ verdict.Clear → Accepted
-  unfolding tooSmall
+  unfolding colourVerdict tooSmall
   accepted e =
-      let p₁ = table .clear e in
-      let p₂ = passed-tail p₁ in
-      let p₃ = passed-tail p₂ in
-      let p₄ = passed-tail (passed-tail p₃) in
-      let p₆ = passed-tail (passed-tail (passed-tail p₄)) in
-      let p₉ = passed-tail p₆ in
-      let p₇ = passed-tail p₉ in
-      let legal = sides w h (passed-head p₁) in
-      let large = neither (ltb (w / 2) 32) (ltb (h / 2) 24) (passed-head p₉) in
-      let some = filled (centresSeen w h order mask frame) (passed-head p₇) in
-      let most = in-range (sitesOf w h) full (seen mask frame) (passed-head p₆) in
+      let shown = centresSeen w h order mask frame in
+      let framed = then-clear _ _ e in
+      let large = then-clear _ _ (framed .1) in
+      let some = then-clear _ _ (large .1) in
+      let l = lent (framed .0) in
+      let sides = neither (ltb (w / 2) 32) (ltb (h / 2) 24) (unless 9 0 (tooSmall w h) (large .0)) in
+      let seen-some = filled shown (unless 7 0 (someEmpty shown) (some .0)) in
       let lit : (plane : ℕ) → 0 < centreSums w h (seen mask frame) (one mask) plane .count → Lit full (centreSums w h (seen mask frame) (one mask) plane) =
-      λ plane more. record { some = more; few = few w h mask frame plane; low = low w h mask frame plane full (λ i l. most i (omega (arith, legal .sites))) } in
+      λ plane more. record { some = more; few = few w h mask frame plane; low = low w h mask frame plane full (λ i j. l .low i (omega (arith, l .legal .sites))) } in
       record {
-        legal = legal;
-        masked = same-length (sitesOf w h) (length mask) (passed-head p₄);
-        framed = same-length (sitesOf w h) (length frame) (passed-head (passed-tail p₄));
-        scale = scale full (passed-head p₂) .high;
-        dark = ltb-false full black (passed-head p₃);
-        wide = ltb-false (w / 2) 32 (large .0);
-        high = ltb-false (h / 2) 24 (large .1);
-        r = lit (mosaicOf order .r) (some .0);
-        gr = lit (mosaicOf order .gr) (some .1 .0);
-        b = lit (mosaicOf order .b) (some .1 .1 .0);
-        gb = lit (mosaicOf order .gb) (some .1 .1 .1);
-        bright = above-black black (centresSeen w h order mask frame .gr) (passed-head (passed-tail p₇));
+        of = l;
+        wide = ltb-false (w / 2) 32 (sides .0);
+        high = ltb-false (h / 2) 24 (sides .1);
+        r = lit (mosaicOf order .r) (seen-some .0);
+        gr = lit (mosaicOf order .gr) (seen-some .1 .0);
+        b = lit (mosaicOf order .b) (seen-some .1 .1 .0);
+        gb = lit (mosaicOf order .gb) (seen-some .1 .1 .1);
+        bright = above-black black (shown .gr) (unless 10 0 (notAbove (aboveBlack black (shown .gr))) (some .1));
       }
+
+  -- where 1 to 6 refuse nothing, what the code sees is what is in the centres, and they decide
+  module _ (clear : frameVerdict w h full black order mask frame ≡ verdict.Clear) (shown : Centres)
+      (e : shown ≡ centresOf order (λ (plane : ℕ). boxSums w h plane (centreOf w h) mask frame)) where
+    pub whole : shown ≡ centresSeen w h order mask frame
+    whole = let l = lent clear in e ∙ shown-whole w h order mask frame (l .legal) (l .masked) (l .framed)
+
+    pub rest : centresVerdict w h black shown ≡ colourVerdict w h full black order mask frame
+    unfolding colourVerdict _⨟_
+    rest = rw clear (ap (λ (seen : Centres). centresVerdict w h black seen) whole)
+
+  pub frame-refused : (r : Refusal) → frameVerdict w h full black order mask frame ≡ verdict.Refused r
+      → colourVerdict w h full black order mask frame ≡ verdict.Refused r
+  unfolding colourVerdict _⨟_
+  frame-refused r e = rw e
 
   pub refused-is : (r : Refusal) → colourVerdict w h full black order mask frame ≡ verdict.Refused r
       → (Refused r ≡ colourAnswer w h full black order mask frame) × (paperOf (Refused r) ≡ colourPaper w h full black order mask frame)

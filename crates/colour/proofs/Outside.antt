@@ -15,9 +15,10 @@ use Rattle.window.specs.declared.Verdict.the-variants as verdict
 use Rattle.window.proofs.Verdicts.{not-given}
 use Rattle.window.proofs.Planes.{box-seen}
 use Rattle.colour.specs.Bayer.{centresOf}
-use Rattle.colour.specs.Centre.{centreOf, tooSmall, someEmpty}
-use Rattle.colour.specs.Colour.{aboveBlack, notAbove, centresSeen, colourVerdict, answered, colourAnswer}
+use Rattle.colour.specs.Centre.{centreOf}
+use Rattle.colour.specs.Colour.{centresSeen, centresVerdict, colourVerdict, answered, colourAnswer}
 use Rattle.colour.specs.declared.Centres.{Centres}
+use Rattle.colour.proofs.Judged.{frame-then}
 
 -- a verdict that gives neither 5 nor 6
 abbrev pub Quiet : Verdict → Type 0
@@ -61,21 +62,16 @@ module _ (w h full black order : ℕ) (mask frame mask′ frame′ : List ℕ) (
   measured : {n k : ℕ} → n ≡ k → refuseIf 4 0 (otherThan (sitesOf w h) n) ≡ refuseIf 4 0 (otherThan (sitesOf w h) k)
   measured e = ap (λ (n : ℕ). refuseIf 4 0 (otherThan (sitesOf w h) n)) e
 
-  -- and 9, 7 and 10 what is in the centres
-  same-rest : refuseIf 9 0 (tooSmall w h)
-      ⨟ refuseIf 7 0 (someEmpty (centresSeen w h order mask frame))
-      ⨟ refuseIf 10 0 (notAbove (aboveBlack black (centresSeen w h order mask frame .gr)))
-      ≡ refuseIf 9 0 (tooSmall w h)
-      ⨟ refuseIf 7 0 (someEmpty (centresSeen w h order mask′ frame′))
-      ⨟ refuseIf 10 0 (notAbove (aboveBlack black (centresSeen w h order mask′ frame′ .gr)))
-  same-rest =
-      ap (λ (shown : Centres). refuseIf 9 0 (tooSmall w h) ⨟ refuseIf 7 0 (someEmpty shown) ⨟ refuseIf 10 0 (notAbove (aboveBlack black (shown .gr)))) same-shown
-
   pub seen-alike : Quiet (colourVerdict w h full black order mask frame) → Quiet (colourVerdict w h full black order mask′ frame′)
       → colourAnswer w h full black order mask frame ≡ colourAnswer w h full black order mask′ frame′
   unfolding colourAnswer colourVerdict
   seen-alike p q =
+      let e = frame-then w h full black order mask frame (centresVerdict w h black (centresSeen w h order mask frame)) in
+      let e′ = frame-then w h full black order mask′ frame′ (centresVerdict w h black (centresSeen w h order mask′ frame′)) in
       ap₂ (λ (v : Verdict) (shown : Centres). answered v black shown)
-      (past refl p q (λ p q. past refl p q (λ p q. past refl p q (λ p q. past (measured m) p q (λ p q. past (measured f) p q (λ p q.
-      unsearched _ _ _ _ _ p ∙ same-rest ∙ sym (unsearched _ _ _ _ _ q)))))))
+      (e
+      ∙ past refl (subst (λ (v : Verdict). Quiet v) e p) (subst (λ (v : Verdict). Quiet v) e′ q) (λ p q.
+      past refl p q (λ p q. past refl p q (λ p q. past (measured m) p q (λ p q. past (measured f) p q (λ p q.
+      unsearched _ _ _ _ _ p ∙ ap (λ (shown : Centres). centresVerdict w h black shown) same-shown ∙ sym (unsearched _ _ _ _ _ q))))))
+      ∙ sym e′)
       same-shown

@@ -9,12 +9,11 @@ use lib.ListN.{length, getD}
 use Rattle.window.specs.Shape.{sitesOf}
 use Rattle.window.specs.View.{surveyed, seen, one}
 use Rattle.window.specs.Plane.{rowParity, columnParity}
-use Rattle.window.specs.declared.Verdict.the-variants as verdict
 use Rattle.window.proofs.Verdicts.{Tabled, Refuses, refuses}
 use Rattle.window.proofs.Views.{Agree, same-view}
 use Rattle.colour.specs.Bayer.{mosaic, mosaicOf}
 use Rattle.colour.specs.Centre.{centreOf}
-use Rattle.colour.specs.Colour.{centresSeen, colourVerdict, colourAnswer, noRatio, colourPaper}
+use Rattle.colour.specs.Colour.{centresSeen, frameVerdict, colourVerdict, colourAnswer, noRatio, colourPaper}
 use Rattle.colour.specs.declared.Colour.{Colour}
 use Rattle.colour.specs.declared.Colour.the-variants.{OverGr}
 use Rattle.colour.specs.declared.Mosaic.{Mosaic}
@@ -45,7 +44,7 @@ module _ (w h full black order : ℕ) (mask frame : List ℕ) where
   -- blind: what another frame holds at unsurveyed sites changes nothing
   pub blind : (other : List ℕ) → Agree mask frame other
       → colourAnswer w h full black order mask frame ≡ colourAnswer w h full black order mask other
-  unfolding colourAnswer colourVerdict
+  unfolding colourAnswer colourVerdict frameVerdict
   blind other a = rw (a .long, same-view a)
 
   -- of an accepted call with these ratios
@@ -57,17 +56,17 @@ module _ (w h full black order : ℕ) (mask frame : List ℕ) where
     pub sound-r : Sound black (centresSeen w h order mask frame .r) (centresSeen w h order mask frame .gr) r
     sound-r =
         rw (answer-is w h full black order mask frame r b gb answer .1 .0)
-        (sound (told .scale) (told .dark) (told .r) (told .gr) (told .bright))
+        (sound (told .of .scale) (told .of .dark) (told .r) (told .gr) (told .bright))
 
     pub sound-b : Sound black (centresSeen w h order mask frame .b) (centresSeen w h order mask frame .gr) b
     sound-b =
         rw (answer-is w h full black order mask frame r b gb answer .1 .1)
-        (sound (told .scale) (told .dark) (told .b) (told .gr) (told .bright))
+        (sound (told .of .scale) (told .of .dark) (told .b) (told .gr) (told .bright))
 
     pub sound-gb : Sound black (centresSeen w h order mask frame .gb) (centresSeen w h order mask frame .gr) gb
     sound-gb =
         rw (answer-is w h full black order mask frame r b gb answer .1 .2)
-        (sound (told .scale) (told .dark) (told .gb) (told .gr) (told .bright))
+        (sound (told .of .scale) (told .of .dark) (told .gb) (told .gr) (told .bright))
 
     -- inside: no centre is cut off, and what is left of a plane below and to the right is what is left above and to the left, or one more
     pub inside : (centreOf w h .top + centreOf w h .bottom ≤ h / 2) × (h / 2 ≤ centreOf w h .top + centreOf w h .bottom + 1)

@@ -13,7 +13,6 @@ use Rattle.window.specs.View.{surveyed, above, seen, one}
 use Rattle.window.specs.Verdict.{refuseIf, refuseFirst}
 use Rattle.window.specs.Judge.{shapeOf, samplesOf}
 use Rattle.window.specs.declared.Verdict.{Verdict}
-use Rattle.window.specs.declared.Verdict.the-variants as verdict
 use Rattle.window.proofs.Sides.{Sides}
 use Rattle.window.proofs.Verdicts.{then-same}
 use Rattle.window.proofs.Views.{seen-most, seen-raised}
@@ -22,7 +21,7 @@ use Rattle.window.proofs.Chains.{shape-clear}
 use Rattle.colour.specs.Bayer.{mosaicOf}
 use Rattle.colour.specs.Centre.{centreOf, centreSums, someEmpty}
 use Rattle.colour.specs.Colour.{ratioOf, centresSeen, colourVerdict, answered, colourAnswer}
-use Rattle.colour.proofs.Judged.{accepted}
+use Rattle.colour.proofs.Judged.{accepted, frame-then}
 use Rattle.colour.proofs.Figures.{same-total, same-ratio, same-answer}
 
 module _ (w h full black order d : ℕ) (mask frame brighter : List ℕ) (long : length brighter ≡ length frame) (dark : black + d ≤ full)
@@ -58,13 +57,15 @@ module _ (w h full black order d : ℕ) (mask frame brighter : List ℕ) (long :
   same-verdict : colourVerdict w h full (black + d) order mask brighter ≡ colourVerdict w h full black order mask frame
   unfolding colourVerdict someEmpty
   same-verdict =
-      then-same (shapeOf w h full) (λ c.
+      frame-then w h full (black + d) order mask brighter _
+      ∙ then-same (shapeOf w h full) (λ c.
       rw (le-ltb full (black + d) dark, le-ltb full black (omega arith), long, samples, same-total black d _ _ refl (totals (shape-clear w h full c .0) (mosaicOf order .gr))))
+      ∙ sym (frame-then w h full black order mask frame _)
 
   pub lifted-alike : colourAnswer w h full (black + d) order mask brighter ≡ colourAnswer w h full black order mask frame
   unfolding colourAnswer
   lifted-alike =
       ap (λ (v : Verdict). answered v (black + d) (centresSeen w h order mask brighter)) same-verdict
       ∙ same-answer (colourVerdict w h full black order mask frame) (black + d) black (centresSeen w h order mask brighter) (centresSeen w h order mask frame)
-      (λ e. let legal = accepted w h full black order mask frame e .legal in
+      (λ e. let legal = accepted w h full black order mask frame e .of .legal in
       (ratios legal (mosaicOf order .r), ratios legal (mosaicOf order .b), ratios legal (mosaicOf order .gb)))

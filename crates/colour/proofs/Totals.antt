@@ -33,12 +33,6 @@ module _ (black : ℕ) (shown : Sums) where
       (λ g. le-leb (shown .total) (black * shown .count) g ∙ reached g)
       (lt-or-ge (black * shown .count) (shown .total))
 
-  -- a black level that no sample reaches
-  pub unreached : 65535 < black → shown .total ≤ 65535 * shown .count → true ≡ notAbove (aboveBlack black shown)
-  unreached dark most =
-      let up : 65535 * shown .count ≤ black * shown .count = mul-le-mul-right (shown .count) (omega arith) in
-      reached (omega arith)
-
   -- where T is above 0
   pub above-black : notAbove (aboveBlack black shown) ≡ false → black * shown .count < shown .total
   above-black e = omega (arith, ltb-true (black * shown .count) (shown .total) (not-false (ltb (black * shown .count) (shown .total)) (sym not-above-is ∙ e)))

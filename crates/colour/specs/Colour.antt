@@ -41,9 +41,9 @@ ratioOf black colour gr =
 abbrev pub centresSeen : ℕ → ℕ → ℕ → List ℕ → List ℕ → Centres
 centresSeen w h order mask frame = centresOf order (centreSums w h (seen mask frame) (one mask))
 
--- the refusals in their order: 9 before 7
-unfoldable pub colourVerdict : ℕ → ℕ → ℕ → ℕ → ℕ → List ℕ → List ℕ → Verdict
-colourVerdict w h full black order mask frame =
+-- the refusals of the window, of the numbers handed in and of what is lent, in their order
+unfoldable pub frameVerdict : ℕ → ℕ → ℕ → ℕ → ℕ → List ℕ → List ℕ → Verdict
+frameVerdict w h full black order mask frame =
     shapeOf w h full
     ⨟ refuseIf 3 0 (ltb full black)
     ⨟ refuseIf 3 0 (ltb 3 order)
@@ -51,9 +51,17 @@ colourVerdict w h full black order mask frame =
     ⨟ refuseIf 4 0 (otherThan (sitesOf w h) (length frame))
     ⨟ codesOf (sitesOf w h) mask
     ⨟ samplesOf (sitesOf w h) full (seen mask frame)
-    ⨟ refuseIf 9 0 (tooSmall w h)
-    ⨟ refuseIf 7 0 (someEmpty (centresSeen w h order mask frame))
-    ⨟ refuseIf 10 0 (notAbove (aboveBlack black (centresSeen w h order mask frame .gr)))
+
+-- then those of the centres, 9 before 7
+abbrev pub centresVerdict : ℕ → ℕ → ℕ → Centres → Verdict
+centresVerdict w h black shown =
+    refuseIf 9 0 (tooSmall w h)
+    ⨟ refuseIf 7 0 (someEmpty shown)
+    ⨟ refuseIf 10 0 (notAbove (aboveBlack black (shown .gr)))
+
+unfoldable pub colourVerdict : ℕ → ℕ → ℕ → ℕ → ℕ → List ℕ → List ℕ → Verdict
+colourVerdict w h full black order mask frame =
+    frameVerdict w h full black order mask frame ⨟ centresVerdict w h black (centresSeen w h order mask frame)
 
 abbrev pub answered : Verdict → ℕ → Centres → Colour
 answered verdict.Clear black shown =

@@ -1,11 +1,10 @@
 // Colour ratios of the four planes' centres: document 01, "Colour ratios".
 ghost use mathlib.Core.Path.{_≡_};
 ghost use Prim.Native.Nat.{ℕ, _-_, _*_, _/_, _≤_, _<_};
-ghost use Rattle.window.specs.Verdict.{_⨟_, refuseIf};
 ghost use Rattle.window.specs.Plane.{boxSums};
 ghost use Rattle.colour.specs.Bayer.{mosaicOf, centresOf};
 ghost use Rattle.colour.specs.Centre.{centreOf, tooSmall, someEmpty};
-ghost use Rattle.colour.specs.Colour.{aboveBlack, notAbove, ratioOf, colourVerdict, colourAnswer, paperOf, colourPaper};
+ghost use Rattle.colour.specs.Colour.{aboveBlack, notAbove, ratioOf, frameVerdict, centresVerdict, colourAnswer, paperOf, colourPaper};
 use window::PlaneBox;
 use window::Refusal;
 use window::Sums;
@@ -105,7 +104,7 @@ fn centres_seen(
     frame: &[u16],
 ) -> Centres
     ensures { λ r. ⌜ r ≡ centresOf «bayer_order» (λ (plane : ℕ). boxSums width height plane (centreOf width height) (now (mask .entry)) (now (frame .entry))) ⌝ }
-    ensures { λ r. ⌜ (r .gr .count ≤ 4096) × (r .gr .total ≤ 65535 * r .gr .count) ⌝ }
+    ensures { λ r. ⌜ r .gr .count ≤ 4096 ⌝ }
 {
     let planes = mosaic_of(bayer_order);
     let within = centre(width, height);
@@ -137,21 +136,18 @@ fn some_empty(seen: Centres) -> bool
     seen.gb.count == 0
 }
 
-// Whether T is not above 0. A black level that no sample reaches is not multiplied.
+// Whether T is not above 0.
 fn not_above(black_level: u64, seen: Sums) -> bool
-    requires { ⌜ (seen .count ≤ 4096) × (seen .total ≤ 65535 * seen .count) ⌝ }
+    requires { ⌜ («black_level» ≤ 4095) × (seen .count ≤ 4096) ⌝ }
     ensures { λ r. ⌜ r ≡ notAbove (aboveBlack «black_level» seen) ⌝ }
 {
-    if 65535 < black_level {
-        return true;
-    }
     seen.total <= black_level * seen.count
 }
 
 // Refusals 9, 7 and 10, in that order.
 fn judge_centres(width: usize, height: usize, black_level: u64, seen: Centres) -> Verdict
-    requires { ⌜ (seen .gr .count ≤ 4096) × (seen .gr .total ≤ 65535 * seen .gr .count) ⌝ }
-    ensures { λ r. ⌜ r ≡ refuseIf 9 0 (tooSmall width height) ⨟ refuseIf 7 0 (someEmpty seen) ⨟ refuseIf 10 0 (notAbove (aboveBlack «black_level» (seen .gr))) ⌝ }
+    requires { ⌜ («black_level» ≤ 4095) × (seen .gr .count ≤ 4096) ⌝ }
+    ensures { λ r. ⌜ r ≡ centresVerdict width height «black_level» seen ⌝ }
 {
     let small = window::refuse_if(9, 0, too_small(width, height));
     let empty = window::refuse_if(7, 0, some_empty(seen));
@@ -159,7 +155,7 @@ fn judge_centres(width: usize, height: usize, black_level: u64, seen: Centres) -
     window::then(small, window::then(empty, dark))
 }
 
-// The refusals in their order.
+// Refusals 1 to 6, in their order.
 fn judge(
     width: usize,
     height: usize,
@@ -168,11 +164,8 @@ fn judge(
     bayer_order: u64,
     mask: &[u8],
     frame: &[u16],
-    seen: Centres,
 ) -> Verdict
-    requires { ⌜ seen ≡ centresOf «bayer_order» (λ (plane : ℕ). boxSums width height plane (centreOf width height) (now mask) (now frame)) ⌝ }
-    requires { ⌜ (seen .gr .count ≤ 4096) × (seen .gr .total ≤ 65535 * seen .gr .count) ⌝ }
-    ensures { λ r. ⌜ r ≡ colourVerdict width height «full_scale» «black_level» «bayer_order» (now (mask .entry)) (now (frame .entry)) ⌝ }
+    ensures { λ r. ⌜ r ≡ frameVerdict width height «full_scale» «black_level» «bayer_order» (now (mask .entry)) (now (frame .entry)) ⌝ }
 {
     let n = window::sites(width, height);
     let shape = window::shape(width, height, full_scale);
@@ -182,9 +175,10 @@ fn judge(
     let frame_long = window::refuse_if(4, 0, frame.len() != n);
     let codes = window::codes(width, height, mask);
     let samples = window::samples(width, height, full_scale, mask, frame);
-    let shown = judge_centres(width, height, black_level, seen);
-    let sites = window::then(codes, window::then(samples, shown));
-    let lengths = window::then(mask_long, window::then(frame_long, sites));
+    let lengths = window::then(
+        mask_long,
+        window::then(frame_long, window::then(codes, samples)),
+    );
     window::then(shape, window::then(black, window::then(order, lengths)))
 }
 
@@ -222,8 +216,7 @@ pub fn colour_ratios(
     ensures answer { λ r. ⌜ r ≡ colourAnswer width height «full_scale» «black_level» «bayer_order» (now (mask .entry)) (now (frame .entry)) ⌝ }
     ensures paper { λ r. ⌜ paperOf r ≡ colourPaper width height «full_scale» «black_level» «bayer_order» (now (mask .entry)) (now (frame .entry)) ⌝ }
 {
-    let seen = centres_seen(width, height, bayer_order, mask, frame);
-    match judge(
+    let lent = judge(
         width,
         height,
         full_scale,
@@ -231,8 +224,12 @@ pub fn colour_ratios(
         bayer_order,
         mask,
         frame,
-        seen,
-    ) {
+    );
+    if let Verdict::Refused(refusal) = lent {
+        return Colour::Refused(refusal);
+    }
+    let seen = centres_seen(width, height, bayer_order, mask, frame);
+    match judge_centres(width, height, black_level, seen) {
         Verdict::Refused(refusal) => Colour::Refused(refusal),
         Verdict::Clear => Colour::OverGr(
             over_gr(black_level, seen.r, seen.gr),

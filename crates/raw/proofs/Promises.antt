@@ -9,7 +9,6 @@ use Rattle.laws.proofs.Tables.{getD-tabulate}
 use Rattle.window.specs.Shape.{badSide, badSides, sitesOf}
 use Rattle.window.specs.Verdict.{_⨟_, refuseIf}
 use Rattle.window.specs.Judge.{otherThan}
-use Rattle.window.specs.declared.Verdict.the-variants as verdict
 use Rattle.window.proofs.Verdicts.{Tabled, Refuses, test, refuses}
 use Rattle.raw.specs.Packed.{sampleAt, packedLength}
 use Rattle.raw.specs.Unpack.{unpackVerdict, unpackAnswer, unpackPaper, unpackBuffer}

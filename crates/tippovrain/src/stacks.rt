@@ -1,6 +1,5 @@
 // Stack.
 ghost use mathlib.Core.Path.{_≡_};
-ghost use lib.ListN.{length};
 ghost use Rattle.stack.specs.Add.{addPaper, addSums, addSquares};
 ghost use Rattle.stack.specs.Variance.{variancePaper};
 use stack::Added;

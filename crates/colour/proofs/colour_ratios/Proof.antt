@@ -1,70 +1,98 @@
--- `colour_ratios` is right because it divides only where nothing is refused, and then what is seen in the whole centres.
+-- `colour_ratios` is right because it sums the centres only of a frame that 1 to 6 do not refuse, and divides only where they are not refused either.
 use mathlib.Core.Path.{_≡_, ap, sym, _∙_}
 use borrow.Author.Needs.{needs}
-use Rattle.colour.proofs.Judged.{fair, accepted, refused-is, accepted-is}
-use Rattle.colour.proofs.Shown.{shown-whole}
+use native.Mathlib.Omega.{arith}
 use Rattle.window.specs.declared.Verdict.the-variants as verdict
+use Rattle.colour.specs.Colour.{frameVerdict, colourVerdict, centresSeen}
 use Rattle.colour.specs.declared.Centres.{Centres}
-use Rattle.colour.specs.Colour.{colourVerdict, centresSeen}
+use Rattle.colour.proofs.Judged.{fair, lent, accepted, whole, rest, frame-refused, refused-is, accepted-is}
 use Rattle.colour.proofs.colour_ratios.Statement.{statement}
 use Rattle.colour.proofs.colour_ratios.Tie as tie
 
-abbrev Begun : tie.After-enum-told → tie.Start
+abbrev Begun : tie.After-centres-seen → tie.Start
 Begun c = c .before .before .before .before .before .before
 
-clear : (c : tie.After-enum-told)
-    → colourVerdict (Begun c .args .width) (Begun c .args .height) (Begun c .args .full-scale) (Begun c .args .black-level) (Begun c .args .bayer-order) (Begun c .args .mask .now) (Begun c .args .frame .now)
+-- 1 to 6 refuse nothing
+unrefused : (c : tie.After-centres-seen)
+    → frameVerdict (Begun c .args .width) (Begun c .args .height) (Begun c .args .full-scale) (Begun c .args .black-level) (Begun c .args .bayer-order) (Begun c .args .mask .now) (Begun c .args .frame .now)
     ≡ verdict.Clear
-clear c = sym (c .before .before .judge .ensures) ∙ c .enum-told .given .1
+unrefused c = sym (c .before .before .before .judge .ensures) ∙ c .before .enum-told .given .1
 
 -- what the code saw is what is in the centres
-whole : (c : tie.After-enum-told)
-    → c .before .before .before .centres-seen .result
+shown : (c : tie.After-centres-seen)
+    → c .centres-seen .result
     ≡ centresSeen (Begun c .args .width) (Begun c .args .height) (Begun c .args .bayer-order) (Begun c .args .mask .now) (Begun c .args .frame .now)
-whole c = let a = accepted _ _ _ _ _ _ _ (clear c) in
-    c .before .before .before .centres-seen .ensures .0 ∙ shown-whole _ _ _ _ _ (a .legal) (a .masked) (a .framed)
+shown c = whole _ _ _ _ _ _ _ (unrefused c) _ (c .centres-seen .ensures .0)
 
-centres-seen-requires : tie.Need-centres-seen-requires
-centres-seen-requires c κs = search needs
+-- nothing is refused
+clear : (c : tie.After-enum-told2)
+    → colourVerdict (Begun (c .before .before .before) .args .width) (Begun (c .before .before .before) .args .height) (Begun (c .before .before .before) .args .full-scale) (Begun (c .before .before .before) .args .black-level) (Begun (c .before .before .before) .args .bayer-order) (Begun (c .before .before .before) .args .mask .now) (Begun (c .before .before .before) .args .frame .now)
+    ≡ verdict.Clear
+clear c = let seen = c .before .before .before in
+    sym (rest _ _ _ _ _ _ _ (unrefused seen) _ (seen .centres-seen .ensures .0)) ∙ sym (c .before .before .judge-centres .ensures) ∙ c .enum-told2 .given .1
 
 judge-requires : tie.Need-judge-requires
 judge-requires c κs = search needs
 
-enum-known-refusal : tie.Need-enum-known-refusal
-enum-known-refusal c = search needs
+enum-known-lent : tie.Need-enum-known-lent
+enum-known-lent c = search needs
+
+returns : tie.Need-returns
+returns c = refused-is _ _ _ _ _ _ _ _ (frame-refused _ _ _ _ _ _ _ _ (sym (c .before .before .before .judge .ensures) ∙ c .before .lent .given .1))
 
 enum-told : tie.Need-enum-told
 enum-told c = search needs
 
+centres-seen-requires : tie.Need-centres-seen-requires
+centres-seen-requires c κs = search needs
+
+judge-centres-requires : tie.Need-judge-centres-requires
+judge-centres-requires c κs = let l = lent _ _ _ _ _ _ _ (unrefused c) in (omega (arith, l .scale, l .dark), c .centres-seen .ensures .1)
+
+enum-known-refusal : tie.Need-enum-known-refusal
+enum-known-refusal c = search needs
+
+enum-told-2 : tie.Need-enum-told-2
+enum-told-2 c = search needs
+
 over-gr-requires : tie.Need-over-gr-requires
 over-gr-requires c κs = let a = accepted _ _ _ _ _ _ _ (clear c) in
-    fair (a .scale) (a .dark) (a .r) (a .gr) (a .bright) _ _ (ap (λ (s : Centres). s .r) (whole c)) (ap (λ (s : Centres). s .gr) (whole c))
+    let seen = shown (c .before .before .before) in
+    fair (a .of .scale) (a .of .dark) (a .r) (a .gr) (a .bright) _ _ (ap (λ (s : Centres). s .r) seen) (ap (λ (s : Centres). s .gr) seen)
 
 over-gr-requires-2 : tie.Need-over-gr-requires-2
 over-gr-requires-2 c κs = let a = accepted _ _ _ _ _ _ _ (clear (c .before)) in
-    fair (a .scale) (a .dark) (a .b) (a .gr) (a .bright) _ _ (ap (λ (s : Centres). s .b) (whole (c .before))) (ap (λ (s : Centres). s .gr) (whole (c .before)))
+    let seen = shown (c .before .before .before .before) in
+    fair (a .of .scale) (a .of .dark) (a .b) (a .gr) (a .bright) _ _ (ap (λ (s : Centres). s .b) seen) (ap (λ (s : Centres). s .gr) seen)
 
 over-gr-requires-3 : tie.Need-over-gr-requires-3
 over-gr-requires-3 c κs = let a = accepted _ _ _ _ _ _ _ (clear (c .before .before)) in
-    fair (a .scale) (a .dark) (a .gb) (a .gr) (a .bright) _ _ (ap (λ (s : Centres). s .gb) (whole (c .before .before))) (ap (λ (s : Centres). s .gr) (whole (c .before .before)))
-
-returns : tie.Need-returns
-returns c = refused-is _ _ _ _ _ _ _ _ (sym (c .before .before .before .judge .ensures) ∙ c .before .refusal .given .1)
+    let seen = shown (c .before .before .before .before .before) in
+    fair (a .of .scale) (a .of .dark) (a .gb) (a .gr) (a .bright) _ _ (ap (λ (s : Centres). s .gb) seen) (ap (λ (s : Centres). s .gr) seen)
 
 returns-2 : tie.Need-returns-2
-returns-2 c = let e = c .before .before .before in
-    accepted-is _ _ _ _ _ _ _ (clear e) _ (whole e) _ _ _ (c .before .before .over-gr .ensures) (c .before .over-gr2 .ensures) (c .over-gr3 .ensures)
+returns-2 c = let seen = c .before .before .before .before in
+    refused-is _ _ _ _ _ _ _ _
+    (sym (rest _ _ _ _ _ _ _ (unrefused seen) _ (seen .centres-seen .ensures .0)) ∙ sym (c .before .before .before .judge-centres .ensures) ∙ c .before .refusal .given .1)
+
+returns-3 : tie.Need-returns-3
+returns-3 c = let e = c .before .before .before in
+    accepted-is _ _ _ _ _ _ _ (clear e) _ (shown (e .before .before .before)) _ _ _ (c .before .before .over-gr .ensures) (c .before .over-gr2 .ensures) (c .over-gr3 .ensures)
 
 pub colour-ratios-spec : {M : Type 1} → statement M
 colour-ratios-spec =
     tie.close
     (tie.spec
-    centres-seen-requires
     judge-requires
-    enum-known-refusal
+    enum-known-lent
+    returns
     enum-told
+    centres-seen-requires
+    judge-centres-requires
+    enum-known-refusal
+    enum-told-2
     over-gr-requires
     over-gr-requires-2
     over-gr-requires-3
-    returns
-    returns-2)
+    returns-2
+    returns-3)

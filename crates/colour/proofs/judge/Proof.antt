@@ -35,9 +35,6 @@ codes-requires c κs = search needs
 samples-requires : tie.Need-samples-requires
 samples-requires c κs = search needs
 
-judge-centres-requires : tie.Need-judge-centres-requires
-judge-centres-requires c κs = search needs
-
 then-requires : tie.Need-then-requires
 then-requires c κs = search needs
 
@@ -56,26 +53,21 @@ then-requires-5 c κs = search needs
 then-requires-6 : tie.Need-then-requires-6
 then-requires-6 c κs = search needs
 
-then-requires-7 : tie.Need-then-requires-7
-then-requires-7 c κs = search needs
-
 returns : tie.Need-returns
 returns c = let lengths = c .before .before .before in
-    let shown = lengths .before .before .before .before in
-    let frame-long = shown .before .before .before in
+    let samples = lengths .before .before .before in
+    let frame-long = samples .before .before in
     let shape = frame-long .before .before .before .before in
-    let start = shape .before .before .before .before in
-    let a = start .args in
+    let a = shape .before .before .before .before .args in
     let long : (l : ℕ) → refuseIf 4 0 (otherThan (shape .before .sites .result) l) ≡ refuseIf 4 0 (otherThan (sitesOf (a .width) (a .height)) l) =
     λ l. ap (λ (n : ℕ). refuseIf 4 0 (otherThan n l)) (shape .before .sites .ensures .0) in
-    then-of (c .then7 .ensures) (shape .shape .ensures)
-    (then-of (c .before .then6 .ensures) (frame-long .before .before .before .refuse-if .ensures)
-    (then-of (c .before .before .then5 .ensures) (frame-long .before .before .refuse-if2 .ensures)
-    (then-of (lengths .then4 .ensures) (frame-long .before .refuse-if3 .ensures ∙ long (length (a .mask .now)))
-    (then-of (lengths .before .then3 .ensures) (frame-long .refuse-if4 .ensures ∙ long (length (a .frame .now)))
-    (then-of (lengths .before .before .then2 .ensures) (shown .before .before .codes .ensures)
-    (then-of (lengths .before .before .before .then .ensures) (shown .before .samples .ensures) (shown .judge-centres .ensures)))))))
-    ∙ judged (a .width) (a .height) (a .full-scale) (a .black-level) (a .bayer-order) (a .mask .now) (a .frame .now) (a .seen) (start .pre .0)
+    then-of (c .then6 .ensures) (shape .shape .ensures)
+    (then-of (c .before .then5 .ensures) (frame-long .before .before .before .refuse-if .ensures)
+    (then-of (c .before .before .then4 .ensures) (frame-long .before .before .refuse-if2 .ensures)
+    (then-of (lengths .then3 .ensures) (frame-long .before .refuse-if3 .ensures ∙ long (length (a .mask .now)))
+    (then-of (lengths .before .then2 .ensures) (frame-long .refuse-if4 .ensures ∙ long (length (a .frame .now)))
+    (then-of (lengths .before .before .then .ensures) (samples .before .codes .ensures) (samples .samples .ensures))))))
+    ∙ judged (a .width) (a .height) (a .full-scale) (a .black-level) (a .bayer-order) (a .mask .now) (a .frame .now)
 
 pub judge-spec : {M : Type 1} → statement M
 judge-spec =
@@ -89,12 +81,10 @@ judge-spec =
     refuse-if-requires-4
     codes-requires
     samples-requires
-    judge-centres-requires
     then-requires
     then-requires-2
     then-requires-3
     then-requires-4
     then-requires-5
     then-requires-6
-    then-requires-7
     returns)
