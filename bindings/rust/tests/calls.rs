@@ -1,0 +1,406 @@
+//! Each call accepted and refused, and what it leaves of the buffers lent to it. What the answers mean is tested in
+//! tests/second; here, that each Rust function is the C function that it names.
+
+use tippovrain::*;
+
+const SMALL: Window = window(2, 2);
+
+const fn window(width: usize, height: usize) -> Window {
+    Window {
+        width,
+        height,
+        full_scale: 1023,
+    }
+}
+
+/// K1's frames.
+const FIRST: [u16; 4] = [100, 101, 102, 103];
+const SECOND: [u16; 4] = [101, 101, 102, 104];
+
+fn refused<T>(number: u64, place: usize) -> Result<T, Refusal> {
+    Err(Refusal { number, place })
+}
+
+fn signed(numerator: i64, denominator: u64) -> SignedFraction {
+    SignedFraction {
+        numerator,
+        denominator,
+    }
+}
+
+fn unsigned(numerator: u64, denominator: u64) -> Fraction {
+    Fraction {
+        numerator,
+        denominator,
+    }
+}
+
+#[test]
+fn raw10() {
+    let mut out = [7; 4];
+    for (width, height, bytes) in [(3, 2, 5), (2, usize::MAX, 5), (0, 2, 0)] {
+        assert_eq!(
+            unpack_raw10(width, height, &[25; 5][..bytes], &mut out),
+            refused(1, 0)
+        );
+    }
+    assert_eq!(unpack_raw10(2, 2, &[25; 4], &mut out), refused(4, 0));
+    assert_eq!(unpack_raw10(2, 2, &[], &mut out), refused(4, 0));
+    assert_eq!(unpack_raw10(2, 2, &[25; 5], &mut out[..3]), refused(4, 0));
+    assert_eq!(unpack_raw10(2, 2, &[25; 5], &mut []), refused(4, 0));
+    assert_eq!(out, [7; 4]);
+    assert_eq!(unpack_raw10(2, 2, &[25, 25, 25, 26, 37], &mut out), Ok(()));
+    assert_eq!(out, SECOND);
+}
+
+#[test]
+fn pair() {
+    let variance = Variance {
+        exact: unsigned(4, 32),
+        figure: 0.125,
+    };
+    assert_eq!(pair_variance(SMALL, &[0; 4], &FIRST, &SECOND), Ok(variance));
+    let noise = Noise {
+        figure: 0.3515625,
+        r: 90,
+        n: 4,
+    };
+    assert_eq!(pair_noise(SMALL, &[0; 4], &FIRST, &SECOND), Ok(noise));
+    // one buffer may be lent twice to be read
+    assert_eq!(
+        pair_noise(SMALL, &[0; 4], &FIRST, &FIRST).map(|noise| noise.figure),
+        Ok(0.0)
+    );
+
+    // each with all right that is tested before it, and something wrong that is tested after it
+    let refuse = |window, mask: &[u8], second: &[u16], number, place| {
+        assert_eq!(
+            pair_variance(window, mask, &FIRST, second),
+            refused(number, place)
+        );
+        assert_eq!(
+            pair_noise(window, mask, &FIRST, second),
+            refused(number, place)
+        );
+    };
+    let dull = Window {
+        full_scale: 0,
+        ..SMALL
+    };
+    refuse(Window { width: 3, ..dull }, &[], &[], 1, 0);
+    refuse(dull, &[], &[], 2, 0);
+    refuse(SMALL, &[0, 4, 0, 0], &SECOND[..3], 4, 0);
+    refuse(SMALL, &[0, 4, 0, 0], &[1024; 4], 5, 1);
+    refuse(SMALL, &[0, 1, 1, 1], &[1024; 4], 6, 0);
+    refuse(SMALL, &[0, 1, 1, 1], &[0, 65535, 65535, 65535], 7, 0);
+}
+
+#[test]
+fn dark() {
+    assert_eq!(
+        dark_level(SMALL, 64, &[0; 4], &[60, 64, 64, 64]),
+        Ok(signed(-4, 4))
+    );
+    assert_eq!(
+        dark_level(SMALL, 1023, &[0; 4], &[1023; 4]),
+        Ok(signed(0, 4))
+    );
+    assert_eq!(dark_level(SMALL, 1024, &[0; 4], &[1023; 4]), refused(3, 0));
+    assert_eq!(dark_level(SMALL, 64, &[], &[]), refused(4, 0));
+    assert_eq!(
+        dark_level(SMALL, 64, &[0; 4], &[60, 64, 64, 1024]),
+        refused(6, 3)
+    );
+    assert_eq!(
+        dark_level(SMALL, 64, &[GAP, DEFECT, FILLED, GAP], &[1024; 4]),
+        refused(7, 0)
+    );
+}
+
+#[test]
+fn stack() {
+    let mask = [0, 0, 0, GAP];
+    let frame = [100, 101, 102, 65535];
+    let (mut sums, mut squares) = ([0, 0, 0, 7], [0, 0, 0, 8]);
+    assert_eq!(
+        stack_variance(SMALL, 0, &mask, &sums, &squares),
+        refused(3, 0)
+    );
+    assert_eq!(
+        stack_add(SMALL, 0, &mask, &frame, &mut sums, &mut squares),
+        Ok(1)
+    );
+    assert_eq!(
+        (sums, squares),
+        ([100, 101, 102, 7], [10000, 10201, 10404, 8])
+    );
+    assert_eq!(
+        stack_variance(SMALL, 1, &mask, &sums, &squares),
+        refused(7, 0)
+    );
+
+    let lent = (sums, squares);
+    let mut add = |frames, frame: &[u16; 4], long: usize| {
+        stack_add(SMALL, frames, &mask, frame, &mut sums[..long], &mut squares)
+    };
+    assert_eq!(add(101, &frame, 4), refused(3, 0));
+    assert_eq!(add(1, &frame, 3), refused(4, 0));
+    assert_eq!(add(1, &[100, 101, 1024, 0], 4), refused(6, 2));
+    assert_eq!(add(0, &frame, 4), refused(11, 0));
+    assert_eq!(add(100, &frame, 4), refused(12, 0));
+    assert_eq!(
+        stack_add(SMALL, 1, &mask, &frame, &mut sums, &mut squares[..3]),
+        refused(4, 0)
+    );
+    assert_eq!((sums, squares), lent);
+
+    assert_eq!(
+        stack_add(
+            SMALL,
+            1,
+            &mask,
+            &[101, 101, 103, 0],
+            &mut sums,
+            &mut squares
+        ),
+        Ok(2)
+    );
+    let variance = Variance {
+        exact: unsigned(2, 12),
+        figure: 2.0 / 12.0,
+    };
+    assert_eq!(
+        stack_variance(SMALL, 2, &mask, &sums, &squares),
+        Ok(variance)
+    );
+    squares[0] = 0;
+    assert_eq!(
+        stack_variance(SMALL, 2, &mask, &sums, &squares),
+        refused(11, 0)
+    );
+}
+
+type Pattern = fn(Window, u64, &[u8], &[u32]) -> Result<PatternNoise, Refusal>;
+
+/// Twelve lines, two sites long; line 6 has 110, all others 100.
+fn pattern(call: Pattern, window: Window, line: [usize; 2]) {
+    let mut sums = [100; 24];
+    for site in line {
+        sums[site] = 110;
+    }
+    let noise = PatternNoise {
+        level_squared: unsigned(800, 46047276),
+        max: signed(200, 20460),
+    };
+    assert_eq!(call(window, 1, &[0; 24], &sums), Ok(noise));
+    let turned = self::window(window.height, window.width);
+    assert_eq!(call(turned, 1, &[0; 24], &sums), refused(9, 0));
+    assert_eq!(call(window, 0, &[0; 24], &sums), refused(3, 0));
+    assert_eq!(call(window, 1, &[0; 24], &sums[..23]), refused(4, 0));
+    let mut mask = [0; 24];
+    mask[3] = GAP;
+    assert_eq!(call(window, 1, &mask, &sums), refused(8, 0));
+    mask[5] = 4;
+    assert_eq!(call(window, 1, &mask, &sums), refused(5, 5));
+    sums[0] = 1024;
+    assert_eq!(call(window, 1, &[0; 24], &sums), refused(11, 0));
+}
+
+#[test]
+fn vertical_pattern() {
+    let window = window(12, 2);
+    pattern(pattern_vertical, window, [6, 18]);
+}
+
+#[test]
+fn horizontal_pattern() {
+    let window = window(2, 12);
+    pattern(pattern_horizontal, window, [12, 13]);
+}
+
+#[test]
+fn defects_and_repair() {
+    let window = window(4, 4);
+    let mut frame = [64; 16];
+    frame[5] = 102;
+    let mut found = [9; 16];
+    assert_eq!(
+        find_defects(window, 4096, &[0; 16], &frame, &mut found),
+        refused(3, 0)
+    );
+    assert_eq!(
+        find_defects(window, 28, &[0; 16], &frame, &mut found[1..]),
+        refused(4, 0)
+    );
+    assert_eq!(
+        find_defects(window, 28, &[4; 16], &frame, &mut found),
+        refused(5, 0)
+    );
+    assert_eq!(found, [9; 16]);
+    assert_eq!(
+        find_defects(window, 28, &[0; 16], &frame, &mut found),
+        Ok(1)
+    );
+    let mut one = [0; 16];
+    one[5] = DEFECT;
+    assert_eq!(found, one);
+
+    let (mut samples, mut codes) = ([9; 16], [9; 16]);
+    let high = [1024; 16];
+    assert_eq!(
+        repair(window, &found, &high, &mut samples, &mut codes),
+        refused(6, 0)
+    );
+    assert_eq!(
+        repair(window, &found, &frame, &mut samples[1..], &mut codes),
+        refused(4, 0)
+    );
+    assert_eq!(
+        repair(window, &found, &frame, &mut samples, &mut codes[1..]),
+        refused(4, 0)
+    );
+    assert_eq!((samples, codes), ([9; 16], [9; 16]));
+    assert_eq!(
+        repair(window, &found, &frame, &mut samples, &mut codes),
+        Ok(1)
+    );
+    one[5] = FILLED;
+    assert_eq!((samples, codes), ([64; 16], one));
+}
+
+type Lines = fn(Window, &[u8], &[u16], &mut [u8]) -> Result<(), Refusal>;
+
+/// Nine lines to a plane; one site is at 103, all others at 100.
+fn lines(call: Lines, window: Window, site: usize, mark: usize) {
+    let mut frame = [100; 36];
+    frame[site] = 103;
+    let turned = self::window(window.height, window.width);
+    let mut marks = [9; 36];
+    assert_eq!(
+        call(turned, &[0; 36], &frame, &mut marks[..4]),
+        refused(9, 0)
+    );
+    assert_eq!(
+        call(window, &[0; 36], &frame, &mut marks[1..]),
+        refused(4, 0)
+    );
+    assert_eq!(
+        call(window, &[0; 36], &[1024; 36], &mut marks),
+        refused(6, 0)
+    );
+    assert_eq!(marks, [9; 36]);
+    assert_eq!(call(window, &[0; 36], &frame, &mut marks), Ok(()));
+    let mut one = [0; 36];
+    one[mark] = 1;
+    assert_eq!(marks, one);
+}
+
+#[test]
+fn rows() {
+    let window = window(2, 18);
+    lines(defective_rows, window, 17, 13);
+}
+
+#[test]
+fn columns() {
+    let window = window(18, 2);
+    lines(defective_columns, window, 26, 22);
+}
+
+#[test]
+fn colour() {
+    let window = window(64, 48);
+    // by parity of row and column: 65, 66 / 68, 72, so 1, 2 / 4, 8 above black
+    let frame: Vec<u16> = (0..64 * 48)
+        .map(|site| [65, 66, 68, 72][site / 64 % 2 * 2 + site % 2])
+        .collect();
+    let mask = vec![0; 64 * 48];
+    let once = 768 * 768;
+    for (order, gr, r, b, gb) in [
+        (BayerOrder::R, 2, 1, 8, 4),
+        (BayerOrder::Gr, 1, 2, 4, 8),
+        (BayerOrder::B, 4, 8, 1, 2),
+        (BayerOrder::Gb, 8, 4, 2, 1),
+    ] {
+        let over = |x: i64| signed(x * once, gr * once as u64);
+        let ratios = ColourRatios {
+            r: over(r),
+            b: over(b),
+            gb: over(gb),
+        };
+        assert_eq!(colour_ratios(window, 64, order, &mask, &frame), Ok(ratios));
+    }
+    assert_eq!(
+        colour_ratios(window, 1024, BayerOrder::R, &mask, &frame),
+        refused(3, 0)
+    );
+    assert_eq!(
+        colour_ratios(window, 64, BayerOrder::R, &mask[1..], &frame),
+        refused(4, 0)
+    );
+    assert_eq!(
+        colour_ratios(window, 66, BayerOrder::R, &mask, &frame),
+        refused(10, 0)
+    );
+    assert_eq!(
+        colour_ratios(window, 64, BayerOrder::R, &[GAP; 64 * 48], &frame),
+        refused(7, 0)
+    );
+    assert_eq!(
+        colour_ratios(SMALL, 64, BayerOrder::R, &[GAP; 4], &FIRST),
+        refused(9, 0)
+    );
+}
+
+#[test]
+fn jobs() {
+    let stream = include_bytes!("../../../crates/job/stdin");
+    let figures = JobFigures {
+        sites: 4,
+        variance: unsigned(4, 32),
+        noise: unsigned(90, 256),
+        dark: signed(150, 4),
+    };
+    assert_eq!(job(stream), Ok(figures));
+    assert_eq!(job(&[]), refused(20, 0));
+    assert_eq!(job(&stream[..12]), refused(20, 10));
+    assert_eq!(job(&[stream.as_slice(), &[0]].concat()), refused(23, 46));
+    let with = |at: usize, byte: u8| {
+        let mut changed = stream.to_vec();
+        changed[at] = byte;
+        job(&changed)
+    };
+    assert_eq!(with(5, 3), refused(21, 5));
+    assert_eq!(with(17, 3), refused(22, 15));
+    assert_eq!(with(4, 3), refused(1, 0));
+    assert_eq!(with(4, 66), refused(24, 0));
+    assert_eq!(with(18, 4), refused(3, 0));
+}
+
+#[test]
+fn refusals_in_words() {
+    let given = [
+        1, 2, 3, 4, 5, 6, 7, 8, 9, 10, 11, 12, 14, 20, 21, 22, 23, 24,
+    ];
+    let unknown = Refusal {
+        number: 0,
+        place: 0,
+    }
+    .meaning();
+    let mut meanings: Vec<_> = given
+        .iter()
+        .map(|&number| Refusal { number, place: 3 }.meaning())
+        .collect();
+    assert!(!meanings.contains(&unknown));
+    meanings.sort();
+    meanings.dedup();
+    assert_eq!(meanings.len(), given.len());
+
+    let begins = |number, text| Refusal { number, place: 3 }.to_string().starts_with(text);
+    assert!(begins(6, "refused 6 at site 3: a surveyed sample"));
+    assert!(begins(22, "refused 22 at byte 3: this field's length"));
+    assert!(begins(12, "refused 12: the stack is full"));
+    // an answer can go where any error goes
+    let error: Box<dyn std::error::Error> = Box::new(pair_noise(SMALL, &[], &[], &[]).unwrap_err());
+    assert!(error.to_string().starts_with("refused 4: a buffer"));
+}
