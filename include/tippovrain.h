@@ -1,20 +1,56 @@
 /*
  * Tippovrain: a camera bench. Figures of noise, dark level, pattern, defects and colour from raw Bayer windows
- * that the caller lends. Link libtippovrain.a (x86-64). It allocates nothing, keeps nothing between two calls,
- * prints nothing, and each call ends on any input.
+ * that the caller lends. It allocates nothing, keeps nothing between two calls, prints nothing, and each call ends on
+ * any input. Calls may run at the same time, so long as none writes what another one is lent.
  *
- * A window is row by row, samples of 16 bits; its sides are each even and from 2 to 128. A site is a place of a
- * window, numbered from 0 in row order.
+ * Linking. libtippovrain.a is x86-64 code and needs nothing but the C library:
+ *
+ *   cc mine.c $(pkg-config --cflags --libs tippovrain)
+ *
+ * A worked example: the noise of two frames, four sites wide and two high, samples of 10 bits, with a gap at site 5.
+ *
+ *   #include <stdio.h>
+ *   #include <tippovrain.h>
+ *
+ *   int main(void)
+ *   {
+ *       const uint8_t mask[8] = {0, 0, 0, 0, 0, 1, 0, 0};
+ *       const uint16_t first[8] = {100, 101, 102, 103, 100, 65535, 102, 103};
+ *       const uint16_t second[8] = {101, 101, 102, 104, 100, 65535, 103, 103};
+ *       uint64_t refusal, place, r, n;
+ *       double noise;
+ *
+ *       refusal = tip_pair_noise(4, 2, 1023, mask, 8, first, 8, second, 8, &place, &r, &n, &noise);
+ *       if (refusal != 0) {
+ *           fprintf(stderr, "refused %d at %d\n", (int)refusal, (int)place);
+ *           return 1;
+ *       }
+ *       printf("noise %f grey levels over %d sites\n", noise, (int)n);
+ *       return 0;
+ *   }
+ *
+ * It prints 'noise 0.348214 grey levels over 7 sites'. With 0 for the gap's code it would say 'refused 6 at 5': by the
+ * table below, the sample at site 5 is above full scale.
+ *
+ * Words, units and ranges, the same in every call:
+ *  - A window is row by row. Its sides, width and height, are counted in sites, each even and from 2 to 128.
+ *  - A site is a place of a window, numbered from 0 in row order: row y, column x is site y * width + x.
+ *  - A sample is 16 bits, in grey levels: 0 to full_scale at a surveyed site, any number at any other.
+ *  - full_scale, the greatest sample that a surveyed site may have, is 1 to 4095 grey levels.
+ *  - A mask has a code for each site: 0 surveyed, 1 gap, 2 defect, 3 filled. Only samples and sums at code 0 are read
+ *    for a figure, a verdict or a refusal; at any other code they may be any number.
+ *  - A plane is the sites of one row parity and one column parity. There are four, each width / 2 by height / 2:
+ *    (0,0), (0,1), (1,0), (1,1), the row's parity first.
+ *  - A buffer is a pointer and a length. The length counts elements, not bytes, and must be exactly what is said.
  *
  * Conventions of every call:
  *  - The result is the refusal's number, 0 where the call is accepted.
  *  - Every other number of the answer goes through a pointer of its own, which is written on EVERY call. On a
  *    refusal it gets 0, place aside; where the call is accepted, place gets 0.
  *  - On a refusal every lent buffer stays as it was, to the last byte.
- *  - A buffer is a pointer and a length. The length counts elements, not bytes.
- *  - A mask has a code for each site: 0 surveyed, 1 gap, 2 defect, 3 filled. Only samples and sums at code 0 are read for
- *    a figure, a verdict or a refusal; at any other code they may be any number.
  *  - Any value of a parameter's type may be handed in, sides and lengths included: what is out of range is refused.
+ *  - Where a figure is two whole numbers, numerator over denominator, they are not reduced, and in an accepted call
+ *    the denominator is above 0.
  *
  * The caller's fault, and not tested for:
  *  - a NULL or misaligned pointer. An empty buffer needs a pointer too, any that is neither;
@@ -23,25 +59,33 @@
  *    a buffer or another such pointer. Two buffers that are only read may be one.
  *
  * Refusals. They are tested in ascending number, and the first that applies is given; each call names the ones it
- * tests, and the one exception to that order stands there.
+ * tests. Two calls have another order, and say so: tip_colour_ratios and tip_job.
  *
  *   no.  given when
  *    1   a side is odd or not in 2..128
  *    2   the full scale is not in 1..4095
- *    3   another parameter is out of range
+ *    3   another parameter is out of range: black level above full scale, threshold above 4095, Bayer order above 3,
+ *        frame count above 100 (or 0 in the stack variance and pattern noise)
  *    4   a lent buffer's length is not exactly the one needed
  *    5   a mask code is above 3
  *    6   a surveyed sample is above full scale
- *    7   too few surveyed sites, or frames
+ *    7   too few: fewer than 2 surveyed sites (pair), none (dark level, stack variance, a plane's centre in colour
+ *        ratios), or fewer than 2 frames (stack variance)
  *    8   pattern noise, and some mask code is not 0
- *    9   the window is too small for the test
+ *    9   the window is too small for the test: pattern noise needs 12 columns (vertical) or rows (horizontal),
+ *        defective rows 18 rows, defective columns 18 columns, colour ratios a width of 64 and a height of 48
  *   10   the Gr total of a colour ratio is not above 0
  *   11   a stack's sums cannot come from its frame count
  *   12   a frame is offered to a stack of 100
  *   14   the variance numerator is 2^53 or more
- *   20 to 24   a stream's faults, as tip_job says
+ *   20   a stream ends inside a field or before it
+ *   21   a field of a stream has another tag than the next due
+ *   22   a field of a stream has the wrong length
+ *   23   bytes follow the last field of a stream
+ *   24   a side of a stream's window is above 64
  *
- * The place of 5 and 6 is the first offending site, as its number in its own frame, of 20 to 23 an offset in the stream; of any other refusal it is 0.
+ * The place of 5 and 6 is the first offending site, as its number in its own frame; of 20 to 23 an offset in the
+ * stream, in bytes from 0; of any other refusal it is 0.
  */
 #ifndef TIPPOVRAIN_H
 #define TIPPOVRAIN_H
@@ -58,9 +102,10 @@ extern "C" {
  * of each sample; the fifth holds the lower two, the first sample's in bits 1..0, the fourth's in bits 7..6. Rows
  * follow each other with no padding, so a group of four may run on into the next row.
  *
- *   bytes   width * height * 5 / 4 packed bytes, only read
- *   out     width * height samples, each written: grey levels, 0 to 1023
- *   place   written: 0
+ *   width, height   sites, each even and from 2 to 128
+ *   bytes           width * height * 5 / 4 packed bytes, only read
+ *   out             width * height samples, each written: grey levels, 0 to 1023
+ *   place           written: 0
  *
  * Refusals, in the order tested: 1; 4 (bytes or out).
  *
@@ -75,8 +120,8 @@ uint64_t tip_unpack_raw10(size_t width, size_t height,
                           uint64_t *place);
 
 /*
- * The variance of a pair of frames: EMVA 1288, release 3 form, in which the mean difference is taken off. d is second
- * minus first at a surveyed site (mask code 0), n the count of surveyed sites.
+ * The variance of a pair of frames, in grey levels squared: EMVA 1288, release 3 form, in which the mean difference
+ * is taken off. d is second minus first at a surveyed site (mask code 0), n the count of surveyed sites.
  *
  *   full_scale   grey levels, 1 to 4095
  *   mask         width * height codes, only read: 0 surveyed, 1 gap, 2 defect, 3 filled
@@ -107,10 +152,10 @@ uint64_t tip_pair_variance(size_t width, size_t height, uint64_t full_scale,
  * The noise of a pair of frames, in grey levels: the root of the variance above. Inputs, place and refusals are those
  * of tip_pair_variance.
  *
- *   r       written: the greatest whole number with r * r <= 2048 * p
- *   n       written: the count of surveyed sites
- *   noise   written: r / (64 * n), rounded once; 32 * n * noise is at most 1 from the root of 512 * p, and noise is 0
- *           where p is
+ *   r       written: the greatest whole number with r * r <= 2048 * p, with the p of tip_pair_variance
+ *   n       written: the count of surveyed sites, 2 or more
+ *   noise   written: r / (64 * n), rounded once, in grey levels; 32 * n * noise is at most 1 from the root of 512 * p,
+ *           and noise is 0 where p is
  *
  *   With mask, first and second as above:
  *   uint64_t place, r, n;
@@ -125,13 +170,14 @@ uint64_t tip_pair_noise(size_t width, size_t height, uint64_t full_scale,
                         uint64_t *place, uint64_t *r, uint64_t *n, double *noise);
 
 /*
- * The dark level: (sum - black_level * n) / n over the n surveyed sites (mask code 0), as two whole numbers, unreduced,
- * in grey levels. It is signed: the numerator is below 0 where the mean is below black.
+ * The dark level, in grey levels: (sum - black_level * n) / n, with the sum of the samples at the n surveyed sites
+ * (mask code 0), as two whole numbers, unreduced. It is signed: the numerator is below 0 where the mean is below black.
  *
- *   full_scale    1 to 4095
- *   black_level   0 to full_scale; usually 64 at 10 bits
- *   mask, frame   width * height codes and samples, only read
- *   place         written
+ *   full_scale    grey levels, 1 to 4095
+ *   black_level   grey levels, 0 to full_scale; usually 64 at 10 bits. There is no default: 0 means 0
+ *   mask          width * height codes, only read: 0 surveyed, 1 gap, 2 defect, 3 filled
+ *   frame         width * height samples, only read; a sample at any code but 0 may be any number, and changes nothing
+ *   place         written: the first offending site for 5 and 6, else 0
  *   numerator     written: sum - black_level * n
  *   denominator   written: n
  *
@@ -154,12 +200,14 @@ uint64_t tip_dark_level(size_t width, size_t height, uint64_t full_scale, uint64
  * sites' sums stay, and are not read. With one window, mask and full scale throughout, accepted frames give the same
  * sums in any order.
  *
- *   full_scale      1 to 4095
- *   frames          how many frames are in the stack: 0 to 99
- *   mask, frame     width * height codes and samples, only read
- *   sums, squares   width * height each, written where the call is accepted
- *   place           written
- *   count           written: frames + 1
+ *   full_scale   grey levels, 1 to 4095
+ *   frames       how many frames are in the stack before the call: 0 to 99
+ *   mask         width * height codes, only read: 0 surveyed, 1 gap, 2 defect, 3 filled
+ *   frame        width * height samples, only read; a sample at any code but 0 may be any number, and changes nothing
+ *   sums         width * height sums, grey levels, written where the call is accepted
+ *   squares      width * height sums of squares, grey levels squared, written where the call is accepted
+ *   place        written: the first offending site for 5 and 6, else 0
+ *   count        written: frames + 1; on a refusal 0, and the stack still has its frames
  *
  * Refusals, in the order tested: 1; 2; 3 (frames above 100); 4 (mask, frame, sums or squares); 5; 6; 11 (at a surveyed
  * site, on the sums as lent: sum above frames * full_scale, sum of squares above frames * full_scale * full_scale, or
@@ -180,15 +228,17 @@ uint64_t tip_stack_add(size_t width, size_t height, uint64_t full_scale, uint64_
                        uint64_t *place, uint64_t *count);
 
 /*
- * The variance of a stack: the sum of frames * square - sum * sum over the n surveyed sites, over n * frames * frames,
- * in grey levels squared, as two whole numbers, unreduced, and as a double by one rounded division.
+ * The variance of a stack, in grey levels squared, from the sums and sums of squares that tip_stack_add has built.
  *
- *   full_scale      1 to 4095
- *   frames          how many frames are in the stack: 2 to 100
- *   mask            width * height codes, only read
- *   sums, squares   width * height each, only read
- *   place           written
- *   numerator, denominator, variance   written
+ *   full_scale    grey levels, 1 to 4095
+ *   frames        how many frames are in the stack: 2 to 100
+ *   mask          width * height codes, only read: 0 surveyed, 1 gap, 2 defect, 3 filled
+ *   sums          width * height sums, grey levels, only read; at any code but 0 any number, and changes nothing
+ *   squares       width * height sums of squares, grey levels squared, likewise
+ *   place         written: the first offending site for 5, else 0
+ *   numerator     written: the sum of frames * square - sum * sum over the n surveyed sites (mask code 0)
+ *   denominator   written: n * frames * frames
+ *   variance      written: numerator / denominator, rounded once, in grey levels squared
  *
  * Refusals, in the order tested: 1; 2; 3 (frames is 0 or above 100); 4 (mask, sums or squares); 5; 7 (no surveyed site,
  * or frames is 1); 11 (as tip_stack_add); 14, which no sums within these limits can give.
@@ -219,14 +269,14 @@ uint64_t tip_stack_variance(size_t width, size_t height, uint64_t full_scale, ui
  *
  *   full_scale          grey levels, 1 to 4095
  *   frames              the stack's frame count, 1 to 100
- *   mask                width * height codes, only read
- *   sums                width * height sums, grey levels, only read
- *   place               written: the site of a 5, else 0
+ *   mask                width * height codes, only read, each 0
+ *   sums                width * height sums, grey levels, only read, each 0 to frames * full_scale
+ *   place               written: the first offending site for 5, else 0
  *   level_numerator, level_denominator, max_numerator, max_denominator
  *                       written: the figures, or 0 each on a refusal
  *
- * Refusals, in the order tested: 1; 2; 3 (frames 0 or above 100); 4 (mask or sums); 5; 8; 9 (width below 12);
- * 11 (a sum above frames * full_scale).
+ * Refusals, in the order tested: 1; 2; 3 (frames 0 or above 100); 4 (mask or sums); 5; 8 (a code from 1 to 3);
+ * 9 (width below 12); 11 (a sum above frames * full_scale).
  *
  *   uint8_t mask[24] = {0};
  *   uint32_t sums[24];                 every one 100, but sums[6] and sums[18] 110
@@ -243,9 +293,9 @@ uint64_t tip_pattern_vertical(size_t width, size_t height, uint64_t full_scale, 
                               int64_t *max_numerator, uint64_t *max_denominator);
 
 /*
- * Horizontal pattern noise: the same with rows. Width and height change places everywhere: the level squared is over
- * (height-1) * (width * k * full_scale)^2, Max is over 10 * width * k * full_scale, and 9 is given where the height is
- * below 12.
+ * Horizontal pattern noise: as tip_pattern_vertical, with rows for columns. Width and height change places everywhere:
+ * the level squared is over (height-1) * (width * k * full_scale)^2, Max is over 10 * width * k * full_scale, and 9 is
+ * given where the height is below 12.
  *
  *   The window above turned on its side, 2 wide and 12 high with row 6 at 110, gives the same numbers.
  */
@@ -257,17 +307,17 @@ uint64_t tip_pattern_horizontal(size_t width, size_t height, uint64_t full_scale
                                 int64_t *max_numerator, uint64_t *max_denominator);
 
 /*
- * Defective sites (dark mode). A window has four planes, by the parity of row and column, each worked alone. A
- * surveyed site (mask code 0) with sample p is compared with the surveyed ones among the 31 * 31 sites of its plane
- * around it, cut off at the plane's edges: c of them, the site included, with the sum S. It is defective when
- * |p * c - S| >= threshold * c. Every decision uses the mask as it came in.
+ * Defective sites (dark mode). Each of the four planes is worked alone. A surveyed site (mask code 0) with sample p is
+ * compared with the surveyed ones among the 31 * 31 sites of its plane around it, cut off at the plane's edges: c of
+ * them, the site included, with the sum S. It is defective when |p * c - S| >= threshold * c: it is at least the
+ * threshold from their mean. Every decision uses the mask as it came in.
  *
  *   full_scale   grey levels, 1 to 4095
  *   threshold    grey levels, 1 to 4095; 0 stands for the default, 28
  *   mask         width * height codes, only read: 0 surveyed, 1 gap, 2 defect, 3 filled
  *   frame        width * height samples, only read; a sample at any code but 0 may be any number, and changes nothing
  *   out_mask     width * height codes, each written: 2 where a site is newly found, else the code of mask
- *   place        written: the first offending site of 5 or 6, else 0
+ *   place        written: the first offending site for 5 and 6, else 0
  *   count        written: how many sites are newly found (were 0 in mask and are 2 in out_mask), 0 on a refusal
  *
  * Refusals, in the order tested: 1; 2; 3 (threshold above 4095); 4 (mask, frame or out_mask); 5; 6.
@@ -292,10 +342,10 @@ uint64_t tip_find_defects(size_t width, size_t height, uint64_t full_scale, uint
  *
  *   full_scale   grey levels, 1 to 4095
  *   mask         width * height codes, only read: 0 surveyed, 1 gap, 2 defect, 3 filled
- *   frame        width * height samples, only read
+ *   frame        width * height samples, only read; at a code other than 0 any number
  *   out_frame    width * height samples, each written
  *   out_mask     width * height codes, each written
- *   place        written: the first offending site of 5 or 6, else 0
+ *   place        written: the first offending site for 5 and 6, else 0
  *   filled       written: how many sites were filled (were 2 in mask and are 3 in out_mask), 0 on a refusal
  *
  * Refusals, in the order tested: 1; 2; 4 (mask, frame, out_frame or out_mask); 5; 6.
@@ -316,11 +366,11 @@ uint64_t tip_repair(size_t width, size_t height, uint64_t full_scale,
                     uint64_t *place, uint64_t *filled);
 
 /*
- * Marks the defective rows of each of the four planes. A plane is the sites of one row parity and one column parity,
- * and has height / 2 rows. A row with c > 0 surveyed sites (mask code 0) and sum s is compared with the eight rows of
- * its plane above it and the eight below, pooled: count C, sum S. At the plane's edges rows are mirrored without
- * repeating the edge (row -1 is row 1), and a row counts as often as it is met. It is defective when C > 0 and
- * 2 * |s * C - S * c| > 5 * c * C: its mean is more than 2.5 grey levels from theirs.
+ * Marks the defective rows of each of the four planes, height / 2 to a plane. A row with c > 0 surveyed sites (mask
+ * code 0) and sum s is compared with the eight rows of its plane above it and the eight below, pooled: count C, sum S.
+ * At the plane's edges rows are mirrored without repeating the edge (row -1 is row 1), and a row counts as often as it
+ * is met. It is defective when C > 0 and 2 * |s * C - S * c| > 5 * c * C: its mean is more than 2.5 grey levels from
+ * theirs.
  *
  *   full_scale   grey levels, 1 to 4095
  *   mask         width * height codes, only read: 0 surveyed, 1 gap, 2 defect, 3 filled
@@ -360,7 +410,7 @@ uint64_t tip_defective_columns(size_t width, size_t height, uint64_t full_scale,
                                uint64_t *place);
 
 /*
- * Colour ratios of the four planes' centres: R, B and Gb over Gr.
+ * Colour ratios of the four planes' centres: R, B and Gb over Gr, pure numbers.
  *
  * bayer_order names the colour at site (0,0): 0 R, 1 Gr, 2 B, 3 Gb. Gr shares R's rows, Gb shares B's:
  *   0: R Gr / Gb B     1: Gr R / B Gb     2: B Gb / Gr R     3: Gb B / R Gr
@@ -369,11 +419,13 @@ uint64_t tip_defective_columns(size_t width, size_t height, uint64_t full_scale,
  * T(X) * c(Gr) over T(Gr) * c(X), unreduced; a numerator may be negative, a denominator is above 0, and neither is
  * above 2415329280 in size.
  *
- *   full_scale       1 to 4095 grey levels
- *   black_level      0 to full_scale grey levels
- *   mask, frame      width * height each, only read; a sample whose code is not 0 may be any number
- *   place            written: the first offending site of 5 and 6, else 0
- *   the other six    written: the three ratios, 0 on a refusal
+ *   full_scale      grey levels, 1 to 4095
+ *   black_level     grey levels, 0 to full_scale
+ *   bayer_order     0 to 3, as above
+ *   mask            width * height codes, only read: 0 surveyed, 1 gap, 2 defect, 3 filled
+ *   frame           width * height samples, only read; a sample at any code but 0 may be any number
+ *   place           written: the first offending site for 5 and 6, else 0
+ *   the other six   written: numerator and denominator of R/Gr, of B/Gr and of Gb/Gr
  *
  * Refusals, in the order tested: 1; 2; 3 (black_level above full_scale, bayer_order above 3); 4 (mask or frame);
  * 5; 6; 9 (width below 64 or height below 48, even with no surveyed site); 7 (no surveyed site in some plane's
@@ -403,9 +455,9 @@ uint64_t tip_colour_ratios(size_t width, size_t height, uint64_t full_scale, uin
  *   place   written: the offset of the field's first byte for 20, 21 and 22, of the first extra byte for 23, the site
  *           for 5 and 6, else 0
  *   sites   written: n, the count of surveyed sites
- *   p, q    written: the variance of the pair, p / q, as tip_pair_variance
- *   r       written: the noise is r / (64 * n), as tip_pair_noise
- *   dark    written: the first frame's dark level is dark / n, as tip_dark_level
+ *   p, q    written: the variance of the pair is p / q grey levels squared, as tip_pair_variance
+ *   r       written: the noise of the pair is r / (64 * n) grey levels, as tip_pair_noise
+ *   dark    written: the dark level of the first frame is dark / n grey levels, as tip_dark_level
  *
  * Refusals, first met in the stream. In a field: 21 (another tag than the next due), 20 (the input ends inside the
  * field or before it), 22 (wrong length); the tag is judged first, then the length, then whether the body is all
