@@ -20,7 +20,7 @@ use Rattle.window.specs.declared.Verdict.{Verdict}
 use Rattle.window.specs.declared.Verdict.the-variants as verdict
 use Rattle.window.proofs.Sides.{Sides}
 use Rattle.window.proofs.Verdicts.{Test, Tabled, test, testFirst, tabled, then-same, then-clear, then-assoc, unless}
-use Rattle.window.proofs.Chains.{shape-clear, same-length, in-range, measured, codes-whole, samples-whole}
+use Rattle.window.proofs.Chains.{shape-clear, same-length, samples-clear, measured, codes-whole, samples-whole}
 use Rattle.colour.specs.Bayer.{mosaicOf, centresOf}
 use Rattle.colour.specs.Centre.{centreOf, tooSmall, centreSums, someEmpty}
 use Rattle.colour.specs.Colour.{aboveBlack, notAbove, ratioOf, centresSeen, frameVerdict, centresVerdict, colourVerdict, answered, colourAnswer, paperOf, colourPaper}
@@ -120,7 +120,7 @@ module _ (w h full black order : ℕ) (mask frame : List ℕ) where
     pub low : (i : ℕ) → i < sitesOf w h → seen mask frame i ≤ full
 
   pub lent : frameVerdict w h full black order mask frame ≡ verdict.Clear → Lent
-  unfolding frameVerdict refuseFirst
+  unfolding frameVerdict
   lent e =
       let n = sitesOf w h in
       let shape = then-clear _ _ e in
@@ -135,7 +135,7 @@ module _ (w h full black order : ℕ) (mask frame : List ℕ) where
         framed = same-length n (length frame) (unless 4 0 (otherThan n (length frame)) (framed .0));
         scale = shape-clear w h full (shape .0) .1 .high;
         dark = ltb-false full black (unless 3 0 (ltb full black) (dark .0));
-        low = in-range n full (seen mask frame) (unless 6 _ _ (coded .1));
+        low = samples-clear n full (seen mask frame) (coded .1);
       }
 
   -- what an accepted call has

@@ -19,7 +19,7 @@ use Rattle.window.specs.View.{badCode, above, seen}
 use Rattle.window.specs.Verdict.{_⨟_, refuseIf, refuseFirst}
 use Rattle.window.specs.Judge.{shapeOf, otherThan}
 use Rattle.window.specs.declared.Verdict.the-variants as verdict
-use Rattle.window.proofs.Verdicts.{Tabled, Refuses, test, testFirst, tabled, refuses, then-assoc, then-same}
+use Rattle.window.proofs.Verdicts.{Test, Tabled, Refuses, test, testFirst, tabled, refuses, then-assoc, then-same}
 use Rattle.window.proofs.Views.{Agree, same-view}
 use Rattle.pair.specs.Pair.{difference, numerator, spreadOf, pairSpread, framesOf, pairVerdict}
 use Rattle.pair.specs.Answers.{varianceAnswer, variancePaper, noiseAnswer, noisePaper}
@@ -38,9 +38,10 @@ module _ (w h full : ℕ) (mask first second : List ℕ) where
       × ((a b : Noise) → a ≡ noiseAnswer w h full mask first second → b ≡ noiseAnswer w h full mask first second → a ≡ b)
   only = (λ a b p q. p ∙ sym q, λ a b p q. p ∙ sym q)
 
-  -- given: both calls refuse exactly as document 01 tables it, in this order
-  pub given : Tabled (pairVerdict w h full mask first second)
-      (test 1 0 (badSides w h)
+  -- the tests of both calls in the order of document 01
+  abbrev pub tests : List Test
+  tests =
+      test 1 0 (badSides w h)
       ∷ test 2 0 (badScale full)
       ∷ test 4 0 (otherThan (sitesOf w h) (length mask))
       ∷ test 4 0 (otherThan (sitesOf w h) (length first))
@@ -50,7 +51,10 @@ module _ (w h full : ℕ) (mask first second : List ℕ) where
       ∷ testFirst 6 (sitesOf w h) (above full (seen mask second))
       ∷ test 7 0 (ltb (pairSpread w h mask first second .n) 2)
       ∷ test 14 0 (leb (2 ^ 53) (pairSpread w h mask first second .p))
-      ∷ [])
+      ∷ []
+
+  -- given: both calls refuse exactly as document 01 tables it
+  pub given : Tabled (pairVerdict w h full mask first second) tests
   unfolding pairVerdict framesOf shapeOf refuseFirst
   given = simp then-assoc (tabled _ _)
 

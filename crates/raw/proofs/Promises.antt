@@ -8,14 +8,13 @@ use Rattle.laws.specs.Table.{tabulate}
 use Rattle.laws.proofs.Tables.{getD-tabulate}
 use Rattle.window.specs.Shape.{badSide, badSides, sitesOf}
 use Rattle.window.specs.Verdict.{_⨟_, refuseIf}
-use Rattle.window.specs.Judge.{otherThan}
-use Rattle.window.proofs.Verdicts.{Tabled, Refuses, test, refuses}
-use Rattle.raw.specs.Packed.{sampleAt, packedLength}
+use Rattle.window.proofs.Verdicts.{Tabled, Refuses, refuses}
+use Rattle.raw.specs.Packed.{sampleAt}
 use Rattle.raw.specs.Unpack.{unpackVerdict, unpackAnswer, unpackPaper, unpackBuffer}
 use Rattle.raw.specs.declared.Unpacked.{Unpacked}
 use Rattle.raw.specs.declared.Unpacked.the-variants.{Done}
 use Rattle.raw.proofs.Samples.{sample-below, sample-occurs}
-use Rattle.raw.proofs.Unpacks.{table, accepted-is, done-clear}
+use Rattle.raw.proofs.Unpacks.{tests, table, accepted-is, done-clear}
 
 module _ (w h : ℕ) (bytes out : List ℕ) where
   -- only: no second answer and no second final buffer meets the promise
@@ -25,12 +24,8 @@ module _ (w h : ℕ) (bytes out : List ℕ) where
       → (a ≡ b) × (left ≡ kept)
   only a b left kept p q = (p .0 ∙ sym (q .0), p .1 ∙ sym (q .1))
 
-  -- given: 1 and 4 exactly as document 01 tables them, in that order
-  pub given : Tabled (unpackVerdict w h (length bytes) (length out))
-      (test 1 0 (badSides w h)
-      ∷ test 4 0 (otherThan (packedLength 4 (sitesOf w h)) (length bytes))
-      ∷ test 4 0 (otherThan (sitesOf w h) (length out))
-      ∷ [])
+  -- given: 1 and 4 exactly as document 01 tables them, in that order (`tests` has the table)
+  pub given : Tabled (unpackVerdict w h (length bytes) (length out)) (tests w h (length bytes) (length out))
   given = table w h (length bytes) (length out)
 
   -- refused: where the number is not 0 the buffer is as it was, and where it is 0 so is the place

@@ -13,7 +13,7 @@ use Rattle.window.specs.declared.Refusal.{Refusal}
 use Rattle.window.specs.declared.Verdict.{Verdict}
 use Rattle.window.specs.declared.Verdict.the-variants as verdict
 use Rattle.window.proofs.Sides.{Sides, sides}
-use Rattle.window.proofs.Verdicts.{Tabled, test, tabled, passed-head, passed-tail}
+use Rattle.window.proofs.Verdicts.{Test, Tabled, test, tabled, passed-head, passed-tail}
 use Rattle.window.proofs.Chains.{same-length}
 use Rattle.raw.specs.Packed.{sampleAt, packedLength}
 use Rattle.raw.specs.Unpack.{unpackVerdict, answered, unpackAnswer, unpackPaper, unpackBuffer}
@@ -35,18 +35,23 @@ quarters {w} {h} s =
 five-fourths : (n k bytes : ℕ) → n ≡ 4 * k → bytes ≡ n * 5 / 4 → 4 * bytes ≡ 5 * n
 five-fourths n k bytes e b = let m : bytes ≡ 5 * k = omega arith in omega arith
 
--- the tests in the order of document 01
-pub table : (w h bytes out : ℕ)
-    → Tabled (unpackVerdict w h bytes out)
-    (test 1 0 (badSides w h) ∷ test 4 0 (otherThan (packedLength 4 (sitesOf w h)) bytes) ∷ test 4 0 (otherThan (sitesOf w h) out) ∷ [])
-unfolding unpackVerdict
-table w h bytes out = tabled _ _
-
 module _ (w h bytes out : ℕ) where
+  -- the tests in the order of document 01
+  abbrev pub tests : List Test
+  tests =
+      test 1 0 (badSides w h)
+      ∷ test 4 0 (otherThan (packedLength 4 (sitesOf w h)) bytes)
+      ∷ test 4 0 (otherThan (sitesOf w h) out)
+      ∷ []
+
+  pub table : Tabled (unpackVerdict w h bytes out) tests
+  unfolding unpackVerdict
+  table = tabled _ _
+
   pub accepted : unpackVerdict w h bytes out ≡ verdict.Clear → Accepted w h bytes out
   accepted e =
       let n = sitesOf w h in
-      let p = table w h bytes out .clear e in
+      let p = table .clear e in
       let s = sides w h (passed-head p) in
       let b = same-length (packedLength 4 n) bytes (passed-head (passed-tail p)) in
       let o = same-length n out (passed-head (passed-tail (passed-tail p))) in

@@ -47,8 +47,10 @@ eight (past a (past b (past c (past d (past e (past f (past g (past h end)))))))
 
 -- a search: its threshold, and the mask that is written
 module _ (w h full t : ℕ) (mask frame : List ℕ) (out : ℕ) where
-  pub find-table : Tabled (findVerdict w h full t mask frame out)
-      (test 1 0 (badSides w h)
+  -- the tests in the order of document 01
+  abbrev pub find-tests : List Test
+  find-tests =
+      test 1 0 (badSides w h)
       ∷ test 2 0 (badScale full)
       ∷ test 3 0 (ltb 4095 t)
       ∷ test 4 0 (otherThan (sitesOf w h) (length mask))
@@ -56,7 +58,9 @@ module _ (w h full t : ℕ) (mask frame : List ℕ) (out : ℕ) where
       ∷ test 4 0 (otherThan (sitesOf w h) out)
       ∷ testFirst 5 (sitesOf w h) (badCode mask)
       ∷ testFirst 6 (sitesOf w h) (above full (seen mask frame))
-      ∷ [])
+      ∷ []
+
+  pub find-table : Tabled (findVerdict w h full t mask frame out) find-tests
   unfolding findVerdict shapeOf refuseFirst
   find-table = rw then-assoc (tabled _ _)
 
@@ -81,8 +85,10 @@ module _ (w h full t : ℕ) (mask frame : List ℕ) (out : ℕ) where
 
 -- a repair: the frame and the mask that are written
 module _ (w h full : ℕ) (mask frame : List ℕ) (outFrame outMask : ℕ) where
-  pub repair-table : Tabled (repairVerdict w h full mask frame outFrame outMask)
-      (test 1 0 (badSides w h)
+  -- the tests in the order of document 01
+  abbrev pub repair-tests : List Test
+  repair-tests =
+      test 1 0 (badSides w h)
       ∷ test 2 0 (badScale full)
       ∷ test 4 0 (otherThan (sitesOf w h) (length mask))
       ∷ test 4 0 (otherThan (sitesOf w h) (length frame))
@@ -90,7 +96,9 @@ module _ (w h full : ℕ) (mask frame : List ℕ) (outFrame outMask : ℕ) where
       ∷ test 4 0 (otherThan (sitesOf w h) outMask)
       ∷ testFirst 5 (sitesOf w h) (badCode mask)
       ∷ testFirst 6 (sitesOf w h) (above full (seen mask frame))
-      ∷ [])
+      ∷ []
+
+  pub repair-table : Tabled (repairVerdict w h full mask frame outFrame outMask) repair-tests
   unfolding repairVerdict shapeOf refuseFirst
   repair-table = rw then-assoc (tabled _ _)
 

@@ -1,26 +1,24 @@
 -- What is promised of `find_defects`, for any inputs.
 use Prim.Native.Nat.{ℕ, _*_, _<_}
 use mathlib.Core.Bool.{Bool}
-use mathlib.Core.List.{List, [], _∷_}
+use mathlib.Core.List.{List}
 use mathlib.Core.Path.{_≡_, refl, sym, ap, _∙_}
 use native.Mathlib.Omega.{arith}
-use lib.Dec.{ltb}
 use lib.ListN.{length, getD}
 use Rattle.laws.specs.Table.{tabulate}
 use Rattle.laws.proofs.Sums.{sum-zero}
 use Rattle.laws.proofs.Tables.{getD-tabulate}
-use Rattle.window.specs.Shape.{badSides, badScale, sitesOf}
-use Rattle.window.specs.View.{badCode, above, seenAt, seen}
-use Rattle.window.specs.Judge.{otherThan}
+use Rattle.window.specs.Shape.{sitesOf}
+use Rattle.window.specs.View.{seenAt, seen}
 use Rattle.window.specs.declared.Verdict.the-variants as verdict
 use Rattle.window.proofs.Sides.{sides}
-use Rattle.window.proofs.Verdicts.{Tabled, Refuses, test, testFirst, refuses}
+use Rattle.window.proofs.Verdicts.{Tabled, Refuses, refuses}
 use Rattle.window.proofs.Views.{Agree, same-view, seen-out}
 use Rattle.sites.specs.Find.{defaultThreshold, usedThreshold, foundAt, markedAt, foundCount, findVerdict, findAnswer, findPaper, findMask}
 use Rattle.sites.specs.declared.Defects.{Defects}
 use Rattle.sites.specs.declared.Defects.the-variants.{Found}
 use Rattle.sites.proofs.Finds.{farAt, same-found, same-marked}
-use Rattle.sites.proofs.Accepts.{find-table, find-accepted, find-clear}
+use Rattle.sites.proofs.Accepts.{find-tests, find-table, find-accepted, find-clear}
 use Rattle.sites.proofs.Turns.{OnlyTurned, turnedCount, tied, only-turned, kept, count-tied}
 use Rattle.sites.proofs.Flips.{flip, flipped, flip-count, flip-table, code-flip, seen-flip, ones-flip, view-flip, accepted-flip}
 
@@ -40,17 +38,8 @@ module _ (w h full t : ℕ) (mask frame out : List ℕ) where
   unfolding findAnswer findPaper findMask findVerdict
   blind other a = rw (a .long, same-view a) (refl, (refl, refl))
 
-  -- given: each refusal exactly as document 01 tables it, in that order
-  pub given : Tabled (findVerdict w h full t mask frame (length out))
-      (test 1 0 (badSides w h)
-      ∷ test 2 0 (badScale full)
-      ∷ test 3 0 (ltb 4095 t)
-      ∷ test 4 0 (otherThan (sitesOf w h) (length mask))
-      ∷ test 4 0 (otherThan (sitesOf w h) (length frame))
-      ∷ test 4 0 (otherThan (sitesOf w h) (length out))
-      ∷ testFirst 5 (sitesOf w h) (badCode mask)
-      ∷ testFirst 6 (sitesOf w h) (above full (seen mask frame))
-      ∷ [])
+  -- given: each refusal exactly as document 01 tables it, in that order (`find-tests` has the table)
+  pub given : Tabled (findVerdict w h full t mask frame (length out)) (find-tests w h full t mask frame (length out))
   given = find-table w h full t mask frame (length out)
 
   -- refused: where the number is not 0 the count is 0 and the mask is as it was, and where it is 0 so is the place

@@ -1,7 +1,7 @@
 -- What is promised of `repair`, for any inputs.
 use Prim.Native.Nat.{ℕ, _*_, _<_, _≤_}
 use mathlib.Core.Bool.{Bool}
-use mathlib.Core.List.{List, [], _∷_}
+use mathlib.Core.List.{List}
 use mathlib.Core.Logic.{_⊎_, ⊎-elim}
 use mathlib.Core.Path.{_≡_, refl, sym, ap, ap₂, _∙_}
 use native.Mathlib.Omega.{arith}
@@ -11,19 +11,18 @@ use Rattle.laws.specs.Sum.{sumTo}
 use Rattle.laws.specs.Table.{tabulate}
 use Rattle.laws.proofs.Sums.{sum-zero}
 use Rattle.laws.proofs.Tables.{length-tabulate, getD-tabulate, tabulated}
-use Rattle.window.specs.Shape.{badSides, badScale, sitesOf}
-use Rattle.window.specs.View.{badCode, above, seenAt, seen, one}
-use Rattle.window.specs.Judge.{otherThan}
+use Rattle.window.specs.Shape.{sitesOf}
+use Rattle.window.specs.View.{seenAt, seen, one}
 use Rattle.window.specs.declared.Verdict.the-variants as verdict
 use Rattle.window.proofs.Sides.{sides}
-use Rattle.window.proofs.Verdicts.{Tabled, Refuses, test, testFirst, refuses}
+use Rattle.window.proofs.Verdicts.{Tabled, Refuses, refuses}
 use Rattle.window.proofs.Views.{Agree, same-view, seen-is, one-is}
 use Rattle.sites.specs.Near.{nearSum}
 use Rattle.sites.specs.Repair.{meanOf, filledAt, sampleAfter, codeAfter, filledCount, repairVerdict, repairAnswer, repairPaper, repairFrame, repairMask}
 use Rattle.sites.specs.declared.Repaired.{Repaired}
 use Rattle.sites.specs.declared.Repaired.the-variants.{Filled}
 use Rattle.sites.proofs.Nears.{Near, near-same, near-most, near-least}
-use Rattle.sites.proofs.Accepts.{Accepted, repair-table, repair-accepted, repair-clear}
+use Rattle.sites.proofs.Accepts.{Accepted, repair-tests, repair-table, repair-accepted, repair-clear}
 use Rattle.sites.proofs.Repairs.{fillable, filled-new, same-seen, not-again, at-least, at-most, filled-some, same-filled, same-code, same-sample, mean-most, mean-least, not-defect, kept-code, kept-sample, new-sample}
 use Rattle.sites.proofs.Turns.{OnlyTurned, turnedCount, tied, only-turned, kept, count-tied}
 use Rattle.sites.proofs.Flips.{flip, flipped, flip-count, flip-table, code-flip, sample-flip, ones-flip, view-flip, accepted-flip}
@@ -44,17 +43,8 @@ module _ (w h full : ℕ) (mask frame outFrame outMask : List ℕ) where
   unfolding repairAnswer repairPaper repairMask repairVerdict
   blind other a = rw (a .long, same-view a) (refl, (refl, refl))
 
-  -- given: each refusal exactly as document 01 tables it, in that order
-  pub given : Tabled (repairVerdict w h full mask frame (length outFrame) (length outMask))
-      (test 1 0 (badSides w h)
-      ∷ test 2 0 (badScale full)
-      ∷ test 4 0 (otherThan (sitesOf w h) (length mask))
-      ∷ test 4 0 (otherThan (sitesOf w h) (length frame))
-      ∷ test 4 0 (otherThan (sitesOf w h) (length outFrame))
-      ∷ test 4 0 (otherThan (sitesOf w h) (length outMask))
-      ∷ testFirst 5 (sitesOf w h) (badCode mask)
-      ∷ testFirst 6 (sitesOf w h) (above full (seen mask frame))
-      ∷ [])
+  -- given: each refusal exactly as document 01 tables it, in that order (`repair-tests` has the table)
+  pub given : Tabled (repairVerdict w h full mask frame (length outFrame) (length outMask)) (repair-tests w h full mask frame (length outFrame) (length outMask))
   given = repair-table w h full mask frame (length outFrame) (length outMask)
 
   -- refused: where the number is not 0 the count is 0 and both buffers are as they were, and where it is 0 so is the place

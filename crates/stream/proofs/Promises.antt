@@ -10,7 +10,7 @@ use Rattle.laws.proofs.Tables.{length-tabulate}
 use Rattle.window.specs.Verdict.{refusal, _⨟_}
 use Rattle.window.specs.declared.Verdict.{Verdict}
 use Rattle.window.specs.declared.Verdict.the-variants as verdict
-use Rattle.window.proofs.Verdicts.{Tabled, Refuses, refuses, inTurn, tabled, tabled-then, then-same, then-clear}
+use Rattle.window.proofs.Verdicts.{Test, Tabled, Refuses, refuses, inTurn, tabled, tabled-then, then-same, then-clear}
 use Rattle.window.proofs.Views.{Agree}
 use Rattle.raw.specs.Packed.{sampleAt}
 use Rattle.raw.specs.Unpack.{unpackBuffer}
@@ -40,9 +40,12 @@ module _ (s : List ℕ) where
   only a b p q = p ∙ sym q
 
   -- given: the faults of each field as they are met, 1 and 24 after field 2, 23; then what is left of the library's refusals, in its order
-  pub given : Tabled (jobVerdict s)
-      (streamTests s (widthOf s) (heightOf s)
-      ++ (scaleTest (fullOf s) ∷ leftTests (widthOf s) (heightOf s) (fullOf s) (blackOf s) (maskOf s) (firstOf s) (secondOf s)))
+  abbrev pub tests : List Test
+  tests =
+      streamTests s (widthOf s) (heightOf s)
+      ++ (scaleTest (fullOf s) ∷ leftTests (widthOf s) (heightOf s) (fullOf s) (blackOf s) (maskOf s) (firstOf s) (secondOf s))
+
+  pub given : Tabled (jobVerdict s) tests
   unfolding jobVerdict
   given =
       rw (then-same (streamVerdict s) (λ clear. library clear))

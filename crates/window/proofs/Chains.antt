@@ -11,7 +11,7 @@ use Rattle.laws.specs.First.{firstTo}
 use Rattle.laws.proofs.Firsts.{first-nowhere, nowhere-first}
 use Rattle.window.specs.Shape.{badSides, badScale, sitesOf}
 use Rattle.window.specs.View.{badCode, above, seen}
-use Rattle.window.specs.Verdict.{_⨟_, refuseIf}
+use Rattle.window.specs.Verdict.{_⨟_, refuseIf, refuseFirst}
 use Rattle.window.specs.Judge.{shapeOf, otherThan, codesOf, samplesOf, walked}
 use Rattle.window.specs.declared.Verdict.{Verdict}
 use Rattle.window.specs.declared.Verdict.the-variants.{Clear}
@@ -53,6 +53,10 @@ codes-legal n mask low = nowhere-first (badCode mask) n (λ i l. le-ltb 3 (getD 
 -- 6 does not apply: nothing that is seen is above full scale
 pub in-range : (n full : ℕ) (view : ℕ → ℕ) → ltb (firstTo n (above full view)) n ≡ false → (i : ℕ) → i < n → view i ≤ full
 in-range n full view e i l = ltb-false full (view i) (first-nowhere (above full view) n e i l)
+
+pub samples-clear : (n full : ℕ) (view : ℕ → ℕ) → samplesOf n full view ≡ Clear → (i : ℕ) → i < n → view i ≤ full
+unfolding refuseFirst
+samples-clear n full view e = in-range n full view (unless 6 (firstTo n (above full view)) (ltb (firstTo n (above full view)) n) e)
 
 pub range-in : (n full : ℕ) (view : ℕ → ℕ) → ((i : ℕ) → i < n → view i ≤ full) → ltb (firstTo n (above full view)) n ≡ false
 range-in n full view low = nowhere-first (above full view) n (λ i l. le-ltb full (view i) (low i l))

@@ -1,13 +1,9 @@
 -- `judge` is right because it asks the definition's tests in its order, and what it asks of buffers of another length comes after 4.
-use Prim.Native.Nat.{ℕ}
-use mathlib.Core.Path.{_≡_, ap, _∙_}
-use lib.ListN.{length}
+use mathlib.Core.Path.{_∙_}
 use borrow.Author.Needs.{needs}
 use Rattle.colour.proofs.Judged.{judged}
 use Rattle.window.proofs.Verdicts.{then-of}
-use Rattle.window.specs.Judge.{otherThan}
-use Rattle.window.specs.Verdict.{refuseIf}
-use Rattle.window.specs.Shape.{sitesOf}
+use Rattle.window.proofs.Chains.{length-told}
 use Rattle.colour.proofs.judge.Statement.{statement}
 use Rattle.colour.proofs.judge.Tie as tie
 
@@ -58,16 +54,14 @@ returns c = let lengths = c .before .before .before in
     let samples = lengths .before .before .before in
     let frame-long = samples .before .before in
     let shape = frame-long .before .before .before .before in
-    let a = shape .before .before .before .before .args in
-    let long : (l : ℕ) → refuseIf 4 0 (otherThan (shape .before .sites .result) l) ≡ refuseIf 4 0 (otherThan (sitesOf (a .width) (a .height)) l) =
-    λ l. ap (λ (n : ℕ). refuseIf 4 0 (otherThan n l)) (shape .before .sites .ensures .0) in
+    let n = shape .before .sites .ensures .0 in
     then-of (c .then6 .ensures) (shape .shape .ensures)
     (then-of (c .before .then5 .ensures) (frame-long .before .before .before .refuse-if .ensures)
     (then-of (c .before .before .then4 .ensures) (frame-long .before .before .refuse-if2 .ensures)
-    (then-of (lengths .then3 .ensures) (frame-long .before .refuse-if3 .ensures ∙ long (length (a .mask .now)))
-    (then-of (lengths .before .then2 .ensures) (frame-long .refuse-if4 .ensures ∙ long (length (a .frame .now)))
+    (then-of (lengths .then3 .ensures) (length-told _ _ _ n (frame-long .before .refuse-if3 .ensures))
+    (then-of (lengths .before .then2 .ensures) (length-told _ _ _ n (frame-long .refuse-if4 .ensures))
     (then-of (lengths .before .before .then .ensures) (samples .before .codes .ensures) (samples .samples .ensures))))))
-    ∙ judged (a .width) (a .height) (a .full-scale) (a .black-level) (a .bayer-order) (a .mask .now) (a .frame .now)
+    ∙ judged _ _ _ _ _ _ _
 
 pub judge-spec : {M : Type 1} → statement M
 judge-spec =

@@ -1,7 +1,9 @@
 -- `judge` is right because it asks the definition's tests in its order, and what walks the sites walks all of them where 4 does not apply.
 use mathlib.Core.Path.{_∙_}
 use borrow.Author.Needs.{needs}
-use Rattle.pair.proofs.Frames.{both, needs-sites, judged}
+use Rattle.window.proofs.Verdicts.{then-of}
+use Rattle.window.proofs.Chains.{length-told}
+use Rattle.pair.proofs.Frames.{judged}
 use Rattle.pair.proofs.judge.Statement.{statement}
 use Rattle.pair.proofs.judge.Tie as tie
 
@@ -49,18 +51,16 @@ then-requires-6 c κs = search needs
 
 returns : tie.Need-returns
 returns c =
-    let n = c .before .before .before .before .before .before .before .before .before .before .before .before .before .sites .ensures .0 in
-    c .then6 .ensures
-    ∙ both (c .before .before .before .before .before .before .before .before .before .before .before .before .shape .ensures)
-    (c .before .then5 .ensures
-    ∙ both (needs-sites _ _ _ n (c .before .before .before .before .before .before .before .before .before .before .before .refuse-if .ensures))
-    (c .before .before .then4 .ensures
-    ∙ both (needs-sites _ _ _ n (c .before .before .before .before .before .before .before .before .before .before .refuse-if2 .ensures))
-    (c .before .before .before .then3 .ensures
-    ∙ both (needs-sites _ _ _ n (c .before .before .before .before .before .before .before .before .before .refuse-if3 .ensures))
-    (c .before .before .before .before .then2 .ensures
-    ∙ both (c .before .before .before .before .before .before .before .before .codes .ensures)
-    (c .before .before .before .before .before .then .ensures ∙ both (c .before .before .before .before .before .before .before .samples .ensures) (c .before .before .before .before .before .before .samples2 .ensures))))))
+    let samples = c .before .before .before .before .before .before in
+    let lengths = samples .before .before .before in
+    let shape = lengths .before .before .before in
+    let n = shape .before .sites .ensures .0 in
+    then-of (c .then6 .ensures) (shape .shape .ensures)
+    (then-of (c .before .then5 .ensures) (length-told _ _ _ n (lengths .before .before .refuse-if .ensures))
+    (then-of (c .before .before .then4 .ensures) (length-told _ _ _ n (lengths .before .refuse-if2 .ensures))
+    (then-of (c .before .before .before .then3 .ensures) (length-told _ _ _ n (lengths .refuse-if3 .ensures))
+    (then-of (c .before .before .before .before .then2 .ensures) (samples .before .before .codes .ensures)
+    (then-of (c .before .before .before .before .before .then .ensures) (samples .before .samples .ensures) (samples .samples2 .ensures))))))
     ∙ judged _ _ _ _ _ _
 
 pub judge-spec : {M : Type 1} → statement M

@@ -1,7 +1,7 @@
 -- `measure` is right because 1 to 6 are judged before the walk, 7 and 14 after it, and that is the definition's order.
 use mathlib.Core.Path.{sym, _∙_}
 use borrow.Author.Needs.{needs}
-use Rattle.pair.proofs.Frames.{both}
+use Rattle.window.proofs.Verdicts.{then-of}
 use Rattle.pair.proofs.Measures.{lent, frames-refused, last-refused, last-clear}
 use Rattle.pair.proofs.measure.Statement.{statement}
 use Rattle.pair.proofs.measure.Tie as tie
@@ -40,13 +40,13 @@ returns-2 : tie.Need-returns-2
 returns-2 c = let seen = c .before .before .before .before .before .before .before .before in
     let judged = seen .before in
     last-refused _ _ _ _ _ _ _ (sym (judged .before .before .judge .ensures) ∙ judged .enum-told .given .1) (seen .spread-of .ensures) _
-    (sym (c .before .before .before .then .ensures ∙ both (c .before .before .before .before .before .before .refuse-if .ensures) (c .before .before .before .before .refuse-if2 .ensures)) ∙ c .before .refusal .given .1)
+    (sym (then-of (c .before .before .before .then .ensures) (c .before .before .before .before .before .before .refuse-if .ensures) (c .before .before .before .before .refuse-if2 .ensures)) ∙ c .before .refusal .given .1)
 
 returns-3 : tie.Need-returns-3
 returns-3 c = let seen = c .before .before .before .before .before .before .before in
     let judged = seen .before in
     last-clear _ _ _ _ _ _ _ (sym (judged .before .before .judge .ensures) ∙ judged .enum-told .given .1) (seen .spread-of .ensures)
-    (sym (c .before .before .then .ensures ∙ both (c .before .before .before .before .before .refuse-if .ensures) (c .before .before .before .refuse-if2 .ensures)) ∙ c .enum-told2 .given .1)
+    (sym (then-of (c .before .before .then .ensures) (c .before .before .before .before .before .refuse-if .ensures) (c .before .before .before .refuse-if2 .ensures)) ∙ c .enum-told2 .given .1)
 
 pub measure-spec : {M : Type 1} → statement M
 measure-spec =
