@@ -1,12 +1,8 @@
 -- `judge` is right because it asks the definition's tests in its order, and what it asks of buffers of another length comes after 4.
-use Prim.Native.Nat.{ℕ}
-use mathlib.Core.Path.{ap, _≡_, _∙_}
-use lib.ListN.{length}
+use mathlib.Core.Path.{_∙_}
 use borrow.Author.Needs.{needs}
 use Rattle.window.proofs.Verdicts.{then-of}
-use Rattle.window.specs.Shape.{sitesOf}
-use Rattle.window.specs.Judge.{otherThan}
-use Rattle.window.specs.Verdict.{refuseIf}
+use Rattle.window.proofs.Chains.{length-told}
 use Rattle.dark.proofs.Levels.{judged}
 use Rattle.dark.proofs.judge.Statement.{statement}
 use Rattle.dark.proofs.judge.Tie as tie
@@ -58,12 +54,11 @@ returns c = let few = c .before .before .before .before .before .before in
     let frame-long = few .before .before .before in
     let shape = frame-long .before .before .before in
     let args = shape .before .before .before .before .args in
-    let long : (l : ℕ) → refuseIf 4 0 (otherThan (shape .before .sites .result) l) ≡ refuseIf 4 0 (otherThan (sitesOf (args .width) (args .height)) l) =
-    λ l. ap (λ (n : ℕ). refuseIf 4 0 (otherThan n l)) (shape .before .sites .ensures .0) in
+    let n = shape .before .sites .ensures .0 in
     then-of (c .then6 .ensures) (shape .shape .ensures)
     (then-of (c .before .then5 .ensures) (frame-long .before .before .refuse-if .ensures)
-    (then-of (c .before .before .then4 .ensures) (frame-long .before .refuse-if2 .ensures ∙ long (length (args .mask .now)))
-    (then-of (c .before .before .before .then3 .ensures) (frame-long .refuse-if3 .ensures ∙ long (length (args .frame .now)))
+    (then-of (c .before .before .then4 .ensures) (length-told _ _ _ n (frame-long .before .refuse-if2 .ensures))
+    (then-of (c .before .before .before .then3 .ensures) (length-told _ _ _ n (frame-long .refuse-if3 .ensures))
     (then-of (c .before .before .before .before .then2 .ensures) (few .before .before .codes .ensures)
     (then-of (c .before .before .before .before .before .then .ensures) (few .before .samples .ensures) (few .refuse-if4 .ensures))))))
     ∙ judged (args .width) (args .height) (args .full-scale) (args .black-level) (args .mask .now) (args .frame .now) (args .count) (shape .before .before .before .before .pre)

@@ -1,14 +1,12 @@
 -- `judge` is right because it asks the definition's tests in its order, and what it asks of buffers of another length, or of sides that no window has, comes after 1 and 4.
 use Prim.Native.Nat.{_*_, ℕ}
-use mathlib.Core.Path.{ap, _≡_, _∙_}
-use lib.ListN.{length}
+use mathlib.Core.Path.{ap, _∙_}
 use lib.Dec.{ltb}
 use borrow.Author.Needs.{needs}
 use Rattle.lines.proofs.Marking.{judged}
 use Rattle.window.specs.Verdict.{refuseIf}
-use Rattle.window.specs.Judge.{otherThan}
-use Rattle.window.specs.Shape.{sitesOf}
 use Rattle.window.proofs.Verdicts.{then-of}
+use Rattle.window.proofs.Chains.{length-told}
 use Rattle.lines.proofs.judge.Statement.{statement}
 use Rattle.lines.proofs.judge.Tie as tie
 
@@ -67,18 +65,17 @@ returns c = let small = c .before .before .before .before .before .before in
     let shape = framed .before .before in
     let start = shape .before .before .before .before .before in
     let args = start .args in
-    let n = shape .before .lines-of .ensures in
-    let long : (l : ℕ) → refuseIf 4 0 (otherThan (shape .before .before .sites .result) l) ≡ refuseIf 4 0 (otherThan (sitesOf (args .width) (args .height)) l) =
-    λ l. ap (λ (k : ℕ). refuseIf 4 0 (otherThan k l)) (shape .before .before .sites .ensures .0) in
+    let count = shape .before .lines-of .ensures in
+    let n = shape .before .before .sites .ensures .0 in
     then-of (c .then6 .ensures) (shape .shape .ensures)
-    (then-of (c .before .then5 .ensures) (framed .before .refuse-if .ensures ∙ long (length (args .mask .now)))
-    (then-of (c .before .before .then4 .ensures) (framed .refuse-if2 .ensures ∙ long (length (args .frame .now)))
+    (then-of (c .before .then5 .ensures) (length-told _ _ _ n (framed .before .refuse-if .ensures))
+    (then-of (c .before .before .then4 .ensures) (length-told _ _ _ n (framed .refuse-if2 .ensures))
     (then-of (c .before .before .before .then3 .ensures) (marked .refuse-if3 .ensures)
     (then-of (c .before .before .before .before .then2 .ensures) (small .before .before .codes .ensures)
     (then-of (c .before .before .before .before .before .then .ensures) (small .before .samples .ensures)
-    (small .refuse-if4 .ensures ∙ ap (λ (k : ℕ). refuseIf 9 0 (ltb k 9)) n))))))
+    (small .refuse-if4 .ensures ∙ ap (λ (k : ℕ). refuseIf 9 0 (ltb k 9)) count))))))
     ∙ judged (args .vertical) (args .width) (args .height) (args .full-scale) (args .mask .now) (args .frame .now) (args .marks) (marked .before .marks-of .result)
-    (λ few. marked .before .marks-of .ensures (rw n few) ∙ ap (λ (k : ℕ). 4 * k) n)
+    (λ few. marked .before .marks-of .ensures (rw count few) ∙ ap (λ (k : ℕ). 4 * k) count)
 
 pub judge-spec : {M : Type 1} → statement M
 judge-spec =

@@ -1,13 +1,9 @@
 -- `judge_frame` is right because it asks the definition's tests in its order, and what it asks of buffers of another length comes after 4.
-use Prim.Native.Nat.{ℕ}
-use mathlib.Core.Path.{_≡_, ap, _∙_}
-use lib.ListN.{length}
+use mathlib.Core.Path.{_∙_}
 use borrow.Author.Needs.{needs}
 use Rattle.stack.proofs.Adds.{judged}
 use Rattle.window.proofs.Verdicts.{then-of}
-use Rattle.window.specs.Judge.{otherThan}
-use Rattle.window.specs.Verdict.{refuseIf}
-use Rattle.window.specs.Shape.{sitesOf}
+use Rattle.window.proofs.Chains.{length-told}
 use Rattle.stack.proofs.judge_frame.Statement.{statement}
 use Rattle.stack.proofs.judge_frame.Tie as tie
 
@@ -76,17 +72,16 @@ returns c = let sites = c .before .before .before .before .before .before in
     let full = sites .before .before .before in
     let squares-long = full .before .before .before .before in
     let count = squares-long .before .before .before .before in
-    let n = count .before .before in
-    let begun = n .before .before .before .before .before in
+    let asked = count .before .before in
+    let begun = asked .before .before .before .before .before in
     let args = begun .args in
-    let long : (l : ℕ) → refuseIf 4 0 (otherThan (n .sites .result) l) ≡ refuseIf 4 0 (otherThan (sitesOf (args .width) (args .height)) l) =
-    λ l. ap (λ (m : ℕ). refuseIf 4 0 (otherThan m l)) (n .sites .ensures .0) in
+    let n = asked .sites .ensures .0 in
     then-of (c .then9 .ensures) (count .before .shape .ensures)
     (then-of (c .before .then8 .ensures) (count .refuse-if .ensures)
-    (then-of (c .before .before .then7 .ensures) (squares-long .before .before .before .refuse-if2 .ensures ∙ long (length (args .mask .now)))
-    (then-of (c .before .before .before .then6 .ensures) (squares-long .before .before .refuse-if3 .ensures ∙ long (length (args .frame .now)))
-    (then-of (c .before .before .before .before .then5 .ensures) (squares-long .before .refuse-if4 .ensures ∙ long (length (args .sums .now)))
-    (then-of (c .before .before .before .before .before .then4 .ensures) (squares-long .refuse-if5 .ensures ∙ long (length (args .squares .now)))
+    (then-of (c .before .before .then7 .ensures) (length-told _ _ _ n (squares-long .before .before .before .refuse-if2 .ensures))
+    (then-of (c .before .before .before .then6 .ensures) (length-told _ _ _ n (squares-long .before .before .refuse-if3 .ensures))
+    (then-of (c .before .before .before .before .then5 .ensures) (length-told _ _ _ n (squares-long .before .refuse-if4 .ensures))
+    (then-of (c .before .before .before .before .before .then4 .ensures) (length-told _ _ _ n (squares-long .refuse-if5 .ensures))
     (then-of (sites .then3 .ensures) (full .before .before .before .codes .ensures)
     (then-of (sites .before .then2 .ensures) (full .before .before .samples .ensures)
     (then-of (sites .before .before .then .ensures) (full .before .possible .ensures) (full .refuse-if6 .ensures)))))))))

@@ -1,13 +1,10 @@
 -- `judge_stack` is right because it asks the definition's tests in its order, and what it asks of buffers of another length comes after 4.
-use Prim.Native.Nat.{ℕ}
-use mathlib.Core.Path.{_≡_, ap, _∙_}
-use lib.ListN.{length}
+use mathlib.Core.Path.{ap, _∙_}
 use borrow.Author.Needs.{needs}
 use Rattle.stack.proofs.Variances.{judged}
 use Rattle.window.proofs.Verdicts.{then-of}
-use Rattle.window.specs.Judge.{otherThan}
+use Rattle.window.proofs.Chains.{length-told}
 use Rattle.window.specs.Verdict.{refuseIf}
-use Rattle.window.specs.Shape.{sitesOf}
 use Rattle.stack.proofs.judge_stack.Statement.{statement}
 use Rattle.stack.proofs.judge_stack.Tie as tie
 
@@ -76,16 +73,15 @@ returns c = let sites = c .before .before .before .before .before in
     let inexact = sites .before .before .before in
     let squares-long = inexact .before .before .before .before .before in
     let bad = squares-long .before .before .before in
-    let n = bad .before .before .before in
-    let begun = n .before .before .before .before in
+    let asked = bad .before .before .before in
+    let begun = asked .before .before .before .before in
     let args = begun .args in
-    let long : (l : ℕ) → refuseIf 4 0 (otherThan (n .sites .result) l) ≡ refuseIf 4 0 (otherThan (sitesOf (args .width) (args .height)) l) =
-    λ l. ap (λ (m : ℕ). refuseIf 4 0 (otherThan m l)) (n .sites .ensures .0) in
+    let n = asked .sites .ensures .0 in
     then-of (c .then8 .ensures) (bad .before .before .shape .ensures)
     (then-of (c .before .then7 .ensures) (bad .refuse-if .ensures ∙ ap (refuseIf 3 0) (bad .before .bad-count .ensures))
-    (then-of (c .before .before .then6 .ensures) (squares-long .before .before .refuse-if2 .ensures ∙ long (length (args .mask .now)))
-    (then-of (c .before .before .before .then5 .ensures) (squares-long .before .refuse-if3 .ensures ∙ long (length (args .sums .now)))
-    (then-of (c .before .before .before .before .then4 .ensures) (squares-long .refuse-if4 .ensures ∙ long (length (args .squares .now)))
+    (then-of (c .before .before .then6 .ensures) (length-told _ _ _ n (squares-long .before .before .refuse-if2 .ensures))
+    (then-of (c .before .before .before .then5 .ensures) (length-told _ _ _ n (squares-long .before .refuse-if3 .ensures))
+    (then-of (c .before .before .before .before .then4 .ensures) (length-told _ _ _ n (squares-long .refuse-if4 .ensures))
     (then-of (sites .then3 .ensures) (inexact .before .before .before .before .codes .ensures)
     (then-of (sites .before .then2 .ensures) (inexact .before .before .refuse-if5 .ensures ∙ ap (refuseIf 7 0) (inexact .before .before .before .too-few .ensures))
     (then-of (sites .before .before .then .ensures) (inexact .before .possible .ensures) (inexact .refuse-if6 .ensures))))))))
