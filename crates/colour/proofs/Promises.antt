@@ -2,10 +2,11 @@
 use Prim.Native.Nat.{ℕ, _+_, _/_, _≤_, _<_}
 use mathlib.Core.Bool.{Bool, true, false, cond}
 use mathlib.Core.List.{List}
-use mathlib.Core.Path.{_≡_, refl, sym, _∙_}
+use mathlib.Core.Path.{_≡_, refl}
 use native.Mathlib.Omega.{arith}
 use lib.Dec.{eqb}
 use lib.ListN.{length, getD}
+use Rattle.laws.proofs.Sole.{Sole, sole}
 use Rattle.window.specs.Shape.{sitesOf}
 use Rattle.window.specs.View.{surveyed, seen, one}
 use Rattle.window.specs.Plane.{rowParity, columnParity}
@@ -14,7 +15,6 @@ use Rattle.window.proofs.Views.{Agree, same-view}
 use Rattle.colour.specs.Bayer.{mosaic, mosaicOf}
 use Rattle.colour.specs.Centre.{centreOf}
 use Rattle.colour.specs.Colour.{centresSeen, frameVerdict, colourVerdict, colourAnswer, noRatio, colourPaper}
-use Rattle.colour.specs.declared.Colour.{Colour}
 use Rattle.colour.specs.declared.Colour.the-variants.{OverGr}
 use Rattle.colour.specs.declared.Mosaic.{Mosaic}
 use Rattle.colour.specs.declared.Ratio.{Ratio}
@@ -25,8 +25,8 @@ use Rattle.colour.proofs.Figures.{Sound, sound}
 
 module _ (w h full black order : ℕ) (mask frame : List ℕ) where
   -- only: no second answer meets the promise
-  pub only : (a b : Colour) → a ≡ colourAnswer w h full black order mask frame → b ≡ colourAnswer w h full black order mask frame → a ≡ b
-  only a b p q = p ∙ sym q
+  pub only : Sole (colourAnswer w h full black order mask frame)
+  only = sole _
 
   -- given: 1 to 6, 9, 7 and 10 exactly as document 01 tables them, in that order (`tests` has the table). 9 before 7 is the one exception
   -- to ascending numbers: a window that is too small gets 9, even with no surveyed site

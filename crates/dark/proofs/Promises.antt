@@ -9,19 +9,19 @@ use lib.Signed.{ltZ}
 use Rattle.laws.specs.Sum.{sumTo}
 use Rattle.laws.specs.Signed.{_⊖_}
 use Rattle.laws.proofs.Signeds.{⊖-below, ⊖-self, ⊖-cross}
+use Rattle.laws.proofs.Sole.{Sole, sole}
 use Rattle.window.specs.Shape.{sitesOf}
 use Rattle.window.specs.View.{seen, one}
 use Rattle.window.proofs.Verdicts.{Tabled, Refuses, refuses}
 use Rattle.window.proofs.Views.{Agree, same-view}
 use Rattle.dark.specs.Dark.{aboveBlack, darkVerdict, darkAnswer, darkPaper}
-use Rattle.dark.specs.declared.Dark.{Dark}
 use Rattle.dark.specs.declared.Dark.the-variants.{Level}
 use Rattle.dark.proofs.Levels.{tests, table, accepted, level-is}
 
 module _ (w h full black : ℕ) (mask frame : List ℕ) where
   -- only: no second answer meets the promise
-  pub only : (a b : Dark) → a ≡ darkAnswer w h full black mask frame → b ≡ darkAnswer w h full black mask frame → a ≡ b
-  only a b p q = p ∙ sym q
+  pub only : Sole (darkAnswer w h full black mask frame)
+  only = sole _
 
   -- given: 1 to 7 exactly as document 01 tables them, in that order (`tests` has the table)
   pub given : Tabled (darkVerdict w h full black mask frame) (tests w h full black mask frame)

@@ -6,3 +6,4 @@ pub mod Tables
 pub mod Signeds
 pub mod Machine
 pub mod Squares
+pub mod Sole

@@ -10,6 +10,7 @@ use lib.Arith.{digits-lt}
 use lib.ListN.{length, getD}
 use Rattle.laws.specs.Table.{tabulate}
 use Rattle.laws.proofs.Tables.{getD-tabulate, tabulate-ext}
+use Rattle.laws.proofs.Sole.{Sole, sole}
 use Rattle.window.specs.View.{surveyed, seen, one}
 use Rattle.window.specs.Plane.{siteAt}
 use Rattle.window.specs.declared.Verdict.the-variants as verdict
@@ -18,7 +19,6 @@ use Rattle.window.proofs.Verdicts.{Tabled, Refuses, refuses}
 use Rattle.window.proofs.Views.{Agree, same-view}
 use Rattle.lines.specs.Lines.{Lines, rows, columns, markOf, lineSum, markAt}
 use Rattle.lines.specs.Marks.{linesVerdict, linesAnswer, linesPaper, linesBuffer}
-use Rattle.lines.specs.declared.Marked.{Marked}
 use Rattle.lines.specs.declared.Marked.the-variants.{Done}
 use Rattle.lines.proofs.Pools.{mark-line}
 use Rattle.lines.proofs.Marking.{Accepted, tests, table, accepted, accepted-is, done-clear}
@@ -27,11 +27,8 @@ use Rattle.lines.proofs.Turns.{turned, turnedPlane, turned-mark, turned
 
 module _ (lines : ℕ → ℕ → Lines) (w h full : ℕ) (mask frame marks : List ℕ) where
   -- only: no second answer and no second final buffer meets the promise
-  pub only : (a b : Marked) (left kept : List ℕ)
-      → (a ≡ linesAnswer lines w h full mask frame (length marks)) × (left ≡ linesBuffer lines w h full mask frame marks)
-      → (b ≡ linesAnswer lines w h full mask frame (length marks)) × (kept ≡ linesBuffer lines w h full mask frame marks)
-      → (a ≡ b) × (left ≡ kept)
-  only a b left kept p q = (p .0 ∙ sym (q .0), p .1 ∙ sym (q .1))
+  pub only : Sole (linesAnswer lines w h full mask frame (length marks)) × Sole (linesBuffer lines w h full mask frame marks)
+  only = (sole _, sole _)
 
   -- given: 1, 2, 4, 5, 6 and 9 exactly as document 01 tables them, in that order (`tests` has the table)
   pub given : Tabled (linesVerdict lines w h full mask frame (length marks)) (tests lines w h full mask frame (length marks))

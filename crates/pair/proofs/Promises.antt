@@ -1,13 +1,17 @@
 -- What is promised of `pair_variance` and `pair_noise`, for any numbers, any mask and any two frames.
-use Prim.Native.Nat.{ℕ, _*_, _^_, _<_}
+use Prim.Native.Nat.{ℕ, _*_, _^_, _≤_, _<_}
 use mathlib.Core.List.{List, [], _∷_}
 use mathlib.Core.Path.{_≡_, refl, sym, ap, _∙_}
+use native.Mathlib.Omega.{arith}
 use lib.Dec.{T, leb, ltb}
 use lib.Ieee.{Float, binary64, ofBits}
 use lib.Ieee.Positive.{num, den}
 use lib.IntN.{pos}
 use lib.ListN.{length, getD}
+use Rattle.laws.specs.Sum.{sumTo}
+use Rattle.laws.proofs.Cases.{times-le}
 use Rattle.laws.proofs.Signeds.{⊖-self}
+use Rattle.laws.proofs.Sole.{Sole, sole}
 use Rattle.exact.specs.Root.{root, IsRoot}
 use Rattle.exact.specs.Quotient.{quotient}
 use Rattle.exact.specs.Bound.{plain, CloseTo, NearRoot}
@@ -15,7 +19,7 @@ use Rattle.exact.proofs.Roots.{root-is}
 use Rattle.exact.proofs.Quotients.{quotient-zero, zero-bits}
 use Rattle.exact.proofs.Noises.{variance-ranged, variance-near, noise-near, noise-plain, noise-zero}
 use Rattle.window.specs.Shape.{badSides, badScale, sitesOf}
-use Rattle.window.specs.View.{badCode, above, seen}
+use Rattle.window.specs.View.{badCode, above, seen, one}
 use Rattle.window.specs.Verdict.{_⨟_, refuseIf, refuseFirst}
 use Rattle.window.specs.Judge.{shapeOf, otherThan}
 use Rattle.window.specs.declared.Verdict.the-variants as verdict
@@ -23,9 +27,7 @@ use Rattle.window.proofs.Verdicts.{Test, Tabled, Refuses, test, testFirst, tabl
 use Rattle.window.proofs.Views.{Agree, same-view}
 use Rattle.pair.specs.Pair.{difference, numerator, spreadOf, pairSpread, framesOf, pairVerdict}
 use Rattle.pair.specs.Answers.{varianceAnswer, variancePaper, noiseAnswer, noisePaper}
-use Rattle.pair.specs.declared.Variance.{Variance}
 use Rattle.pair.specs.declared.Variance.the-variants as variance
-use Rattle.pair.specs.declared.Noise.{Noise}
 use Rattle.pair.specs.declared.Noise.the-variants as noise
 use Rattle.pair.proofs.Spreads.{SameDifference, whole, zero-same, same-zero}
 use Rattle.pair.proofs.Frames.{readable}
@@ -34,9 +36,8 @@ use Rattle.pair.proofs.Calls.{variance-was, noise-was}
 
 module _ (w h full : ℕ) (mask first second : List ℕ) where
   -- only: no second answer meets the promise
-  pub only : ((a b : Variance) → a ≡ varianceAnswer w h full mask first second → b ≡ varianceAnswer w h full mask first second → a ≡ b)
-      × ((a b : Noise) → a ≡ noiseAnswer w h full mask first second → b ≡ noiseAnswer w h full mask first second → a ≡ b)
-  only = (λ a b p q. p ∙ sym q, λ a b p q. p ∙ sym q)
+  pub only : Sole (varianceAnswer w h full mask first second) × Sole (noiseAnswer w h full mask first second)
+  only = (sole _, sole _)
 
   -- the tests of both calls in the order of document 01
   abbrev pub tests : List Test
@@ -83,7 +84,29 @@ module _ (w h full : ℕ) (mask first second : List ℕ) where
   unfolding pairVerdict
   spare = then-same (framesOf w h full mask first second) (λ e. last-exact (pairSpread w h mask first second) (in-limits e))
 
-  -- of an accepted variance: P is n × (sum of d²) − (sum of d)² over signed differences
+  -- both calls refuse alike, and so accept alike
+  pub alike : (variancePaper w h full mask first second .number ≡ noisePaper w h full mask first second .number)
+      × (variancePaper w h full mask first second .place ≡ noisePaper w h full mask first second .place)
+  unfolding variancePaper noisePaper
+  alike = (refl, refl)
+
+  -- of an accepted noise: n is the count of surveyed sites, from 2 to all sites of the largest window
+  pub counts : (x : Float) (r n : ℕ) → noiseAnswer w h full mask first second ≡ noise.Figure x r n
+      → (n ≡ sumTo (sitesOf w h) (one mask)) × (2 ≤ n) × (n ≤ 16384)
+  unfolding spreadOf
+  counts x r n e = let was = noise-was x r n e in (was .3, rw (was .3) (was .0 .two), rw (was .3) (was .0 .few))
+
+  -- of an accepted variance: P is that of the definition, of which r is the root too, and Q is 2 × n²; neither has reached 2^53
+  pub whole-numbers : (p q : ℕ) (x : Float) → varianceAnswer w h full mask first second ≡ variance.Figures p q x
+      → (p ≡ pairSpread w h mask first second .p) × (q ≡ 2 * (pairSpread w h mask first second .n * pairSpread w h mask first second .n))
+      × (p < 2 ^ 53) × (q < 2 ^ 53)
+  whole-numbers p q x e =
+      let was = variance-was p q x e in
+      let n = pairSpread w h mask first second .n in
+      let square : n * n ≤ 16384 * 16384 = times-le n n 16384 16384 (was .0 .few) (was .0 .few) in
+      (was .1, was .2, rw (was .1) (was .0 .exact), rw (was .2) (omega (arith, square)))
+
+  -- P is n × (sum of d²) − (sum of d)² over signed differences
   pub signed : (p q : ℕ) (x : Float) → varianceAnswer w h full mask first second ≡ variance.Figures p q x
       → pos p ≡ numerator (sitesOf w h) (pairSpread w h mask first second .n) (difference (seen mask first) (seen mask second))
   unfolding spreadOf

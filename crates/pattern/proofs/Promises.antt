@@ -7,6 +7,7 @@ use native.Mathlib.Nat.{mul-assoc}
 use native.Mathlib.Omega.{arith}
 use lib.IntN.{pos, natAbs}
 use Rattle.laws.proofs.Cases.{times-le}
+use Rattle.laws.proofs.Sole.{Sole, sole}
 use Rattle.window.specs.View.{seen}
 use Rattle.window.specs.declared.Verdict.{Verdict}
 use Rattle.window.specs.declared.Verdict.the-variants as verdict
@@ -28,8 +29,8 @@ use Rattle.pattern.proofs.Turns.{Turned, verdict-turned, figures-turned
 -- of either call: `lines` is `columns` or `rows`
 module _ (lines : ℕ → ℕ → Lines) (w h full k : ℕ) (mask : List ℕ) where
   -- only: no second answer meets the promise
-  pub only : (sums : List ℕ) (a b : Pattern) → a ≡ patternAnswer lines w h full k mask sums → b ≡ patternAnswer lines w h full k mask sums → a ≡ b
-  only sums a b p q = p ∙ sym q
+  pub only : (sums : List ℕ) → Sole (patternAnswer lines w h full k mask sums)
+  only sums = sole _
 
   -- blind: sums that agree at every surveyed site get the same answer
   pub blind : {sums others : List ℕ} → Agree mask sums others

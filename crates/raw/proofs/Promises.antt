@@ -1,28 +1,25 @@
 -- What is promised of `unpack_raw10`, for any sides and any two buffers.
 use Prim.Native.Nat.{ℕ, _/_, _%_, _<_}
 use mathlib.Core.List.{List, [], _∷_}
-use mathlib.Core.Path.{_≡_, refl, sym, _∙_}
+use mathlib.Core.Path.{_≡_, refl}
 use native.Mathlib.Omega.{arith}
 use lib.ListN.{length, getD}
 use Rattle.laws.specs.Table.{tabulate}
 use Rattle.laws.proofs.Tables.{getD-tabulate}
+use Rattle.laws.proofs.Sole.{Sole, sole}
 use Rattle.window.specs.Shape.{badSide, badSides, sitesOf}
 use Rattle.window.specs.Verdict.{_⨟_, refuseIf}
 use Rattle.window.proofs.Verdicts.{Tabled, Refuses, refuses}
 use Rattle.raw.specs.Packed.{sampleAt}
 use Rattle.raw.specs.Unpack.{unpackVerdict, unpackAnswer, unpackPaper, unpackBuffer}
-use Rattle.raw.specs.declared.Unpacked.{Unpacked}
 use Rattle.raw.specs.declared.Unpacked.the-variants.{Done}
 use Rattle.raw.proofs.Samples.{sample-below, sample-occurs}
 use Rattle.raw.proofs.Unpacks.{tests, table, accepted-is, done-clear}
 
 module _ (w h : ℕ) (bytes out : List ℕ) where
   -- only: no second answer and no second final buffer meets the promise
-  pub only : (a b : Unpacked) (left kept : List ℕ)
-      → (a ≡ unpackAnswer w h (length bytes) (length out)) × (left ≡ unpackBuffer w h bytes out)
-      → (b ≡ unpackAnswer w h (length bytes) (length out)) × (kept ≡ unpackBuffer w h bytes out)
-      → (a ≡ b) × (left ≡ kept)
-  only a b left kept p q = (p .0 ∙ sym (q .0), p .1 ∙ sym (q .1))
+  pub only : Sole (unpackAnswer w h (length bytes) (length out)) × Sole (unpackBuffer w h bytes out)
+  only = (sole _, sole _)
 
   -- given: 1 and 4 exactly as document 01 tables them, in that order (`tests` has the table)
   pub given : Tabled (unpackVerdict w h (length bytes) (length out)) (tests w h (length bytes) (length out))

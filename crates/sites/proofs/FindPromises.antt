@@ -2,12 +2,13 @@
 use Prim.Native.Nat.{ℕ, _*_, _<_}
 use mathlib.Core.Bool.{Bool}
 use mathlib.Core.List.{List}
-use mathlib.Core.Path.{_≡_, refl, sym, ap, _∙_}
+use mathlib.Core.Path.{_≡_, refl, ap, _∙_}
 use native.Mathlib.Omega.{arith}
 use lib.ListN.{length, getD}
 use Rattle.laws.specs.Table.{tabulate}
 use Rattle.laws.proofs.Sums.{sum-zero}
 use Rattle.laws.proofs.Tables.{getD-tabulate}
+use Rattle.laws.proofs.Sole.{Sole, sole}
 use Rattle.window.specs.Shape.{sitesOf}
 use Rattle.window.specs.View.{seenAt, seen}
 use Rattle.window.specs.declared.Verdict.the-variants as verdict
@@ -15,7 +16,6 @@ use Rattle.window.proofs.Sides.{sides}
 use Rattle.window.proofs.Verdicts.{Tabled, Refuses, refuses}
 use Rattle.window.proofs.Views.{Agree, same-view, seen-out}
 use Rattle.sites.specs.Find.{defaultThreshold, usedThreshold, foundAt, markedAt, foundCount, findVerdict, findAnswer, findPaper, findMask}
-use Rattle.sites.specs.declared.Defects.{Defects}
 use Rattle.sites.specs.declared.Defects.the-variants.{Found}
 use Rattle.sites.proofs.Finds.{farAt, same-found, same-marked}
 use Rattle.sites.proofs.Accepts.{find-tests, find-table, find-accepted, find-clear}
@@ -24,11 +24,8 @@ use Rattle.sites.proofs.Flips.{flip, flipped, flip-count, flip-table, c
 
 module _ (w h full t : ℕ) (mask frame out : List ℕ) where
   -- only: no second answer and no second final mask meets the promise
-  pub only : (a b : Defects) (left kept : List ℕ)
-      → (a ≡ findAnswer w h full t mask frame (length out)) × (left ≡ findMask w h full t mask frame out)
-      → (b ≡ findAnswer w h full t mask frame (length out)) × (kept ≡ findMask w h full t mask frame out)
-      → (a ≡ b) × (left ≡ kept)
-  only a b left kept p q = (p .0 ∙ sym (q .0), p .1 ∙ sym (q .1))
+  pub only : Sole (findAnswer w h full t mask frame (length out)) × Sole (findMask w h full t mask frame out)
+  only = (sole _, sole _)
 
   -- blind: what the frame holds at sites that are not surveyed changes neither the answer nor the mask
   pub blind : (other : List ℕ) → Agree mask frame other

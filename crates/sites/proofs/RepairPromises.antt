@@ -11,6 +11,7 @@ use Rattle.laws.specs.Sum.{sumTo}
 use Rattle.laws.specs.Table.{tabulate}
 use Rattle.laws.proofs.Sums.{sum-zero}
 use Rattle.laws.proofs.Tables.{length-tabulate, getD-tabulate, tabulated}
+use Rattle.laws.proofs.Sole.{Sole, sole}
 use Rattle.window.specs.Shape.{sitesOf}
 use Rattle.window.specs.View.{seenAt, seen, one}
 use Rattle.window.specs.declared.Verdict.the-variants as verdict
@@ -19,7 +20,6 @@ use Rattle.window.proofs.Verdicts.{Tabled, Refuses, refuses}
 use Rattle.window.proofs.Views.{Agree, same-view, seen-is, one-is}
 use Rattle.sites.specs.Near.{nearSum}
 use Rattle.sites.specs.Repair.{meanOf, filledAt, sampleAfter, codeAfter, filledCount, repairVerdict, repairAnswer, repairPaper, repairFrame, repairMask}
-use Rattle.sites.specs.declared.Repaired.{Repaired}
 use Rattle.sites.specs.declared.Repaired.the-variants.{Filled}
 use Rattle.sites.proofs.Nears.{Near, near-same, near-most, near-least}
 use Rattle.sites.proofs.Accepts.{Accepted, repair-tests, repair-table, repair-accepted, repair-clear}
@@ -29,11 +29,10 @@ use Rattle.sites.proofs.Flips.{flip, flipped, flip-count, flip-table, c
 
 module _ (w h full : ℕ) (mask frame outFrame outMask : List ℕ) where
   -- only: no second answer and no second final frame and mask meets the promise
-  pub only : (a b : Repaired) (left kept codes marks : List ℕ)
-      → (a ≡ repairAnswer w h full mask frame (length outFrame) (length outMask)) × (left ≡ repairFrame w h full mask frame outFrame (length outMask)) × (codes ≡ repairMask w h full mask frame (length outFrame) outMask)
-      → (b ≡ repairAnswer w h full mask frame (length outFrame) (length outMask)) × (kept ≡ repairFrame w h full mask frame outFrame (length outMask)) × (marks ≡ repairMask w h full mask frame (length outFrame) outMask)
-      → (a ≡ b) × (left ≡ kept) × (codes ≡ marks)
-  only a b left kept codes marks p q = (p .0 ∙ sym (q .0), p .1 ∙ sym (q .1), p .2 ∙ sym (q .2))
+  pub only : Sole (repairAnswer w h full mask frame (length outFrame) (length outMask))
+      × Sole (repairFrame w h full mask frame outFrame (length outMask))
+      × Sole (repairMask w h full mask frame (length outFrame) outMask)
+  only = (sole _, sole _, sole _)
 
   -- blind: what the frame holds at sites that are not surveyed changes neither the answer nor the mask
   pub blind : (other : List ℕ) → Agree mask frame other

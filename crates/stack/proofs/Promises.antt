@@ -13,6 +13,7 @@ use Rattle.window.proofs.Sides.{frame-count, scale, sites-few}
 use Rattle.window.specs.Shape.{badCount, badScale, sitesOf}
 use Rattle.laws.specs.Sum.{sumTo}
 use Rattle.laws.proofs.Tables.{getD-tabulate}
+use Rattle.laws.proofs.Sole.{Sole, sole}
 use Rattle.exact.specs.Quotient.{floatZero}
 use Rattle.exact.proofs.Quotients.{quotient-zero}
 use Rattle.window.specs.View.{surveyed, seen, one}
@@ -27,7 +28,6 @@ use Rattle.stack.specs.Sums.{impossibleIn, squared, added, spread}
 use Rattle.stack.specs.Add.{addVerdict, addAnswer, addPaper, addSums, addSquares}
 use Rattle.stack.specs.Variance.{tooFew, varianceVerdict, varianceAnswer, variancePaper}
 use Rattle.stack.specs.Run.{Stack, run, runVerdict, overFrames}
-use Rattle.stack.specs.declared.Added.{Added}
 use Rattle.stack.specs.declared.Variance.{Variance}
 use Rattle.stack.specs.declared.Variance.the-variants.{Figures}
 use Rattle.stack.proofs.Sites.{all-possible}
@@ -39,11 +39,10 @@ use Rattle.stack.proofs.Runs.{over-ext, Reordered, as-many, InRange, Al
 -- ---- adding a frame
 module _ (w h full k : ℕ) (mask frame sums squares : List ℕ) where
   -- only: no second answer and no second final buffer meets the promise
-  pub add-only : (a b : Added) (s t q r : List ℕ)
-      → (a ≡ addAnswer w h full k mask frame sums squares) × (s ≡ addSums w h full k mask frame sums squares) × (q ≡ addSquares w h full k mask frame sums squares)
-      → (b ≡ addAnswer w h full k mask frame sums squares) × (t ≡ addSums w h full k mask frame sums squares) × (r ≡ addSquares w h full k mask frame sums squares)
-      → (a ≡ b) × (s ≡ t) × (q ≡ r)
-  add-only a b s t q r x y = (x .0 ∙ sym (y .0), x .1 ∙ sym (y .1), x .2 ∙ sym (y .2))
+  pub add-only : Sole (addAnswer w h full k mask frame sums squares)
+      × Sole (addSums w h full k mask frame sums squares)
+      × Sole (addSquares w h full k mask frame sums squares)
+  add-only = (sole _, sole _, sole _)
 
   -- given: 1 to 6, 11 and 12 exactly as document 01 tables them, in that order (`Adds.tests` has the table)
   pub add-given : Tabled (addVerdict w h full k mask frame sums squares) (adds.tests w h full k mask frame sums squares)
@@ -94,8 +93,8 @@ module _ (w h full k : ℕ) (mask frame sums squares : List ℕ) where
 -- ---- the variance
 module _ (w h full k : ℕ) (mask sums squares : List ℕ) where
   -- only
-  pub variance-only : (a b : Variance) → a ≡ varianceAnswer w h full k mask sums squares → b ≡ varianceAnswer w h full k mask sums squares → a ≡ b
-  variance-only a b p q = p ∙ sym q
+  pub variance-only : Sole (varianceAnswer w h full k mask sums squares)
+  variance-only = sole _
 
   -- given: 1 to 5, 7, 11 and 14 exactly as document 01 tables them, in that order (`Variances.tests` has the table)
   pub variance-given : Tabled (varianceVerdict w h full k mask sums squares) (variances.tests w h full k mask sums squares)

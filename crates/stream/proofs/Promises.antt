@@ -7,6 +7,7 @@ use lib.IntN.{ℤ, pos}
 use lib.ListN.{length, take, length-take, length-drop}
 use lib.Seq.{take-all}
 use Rattle.laws.proofs.Tables.{length-tabulate}
+use Rattle.laws.proofs.Sole.{Sole, sole}
 use Rattle.window.specs.Verdict.{refusal, _⨟_}
 use Rattle.window.specs.declared.Verdict.{Verdict}
 use Rattle.window.specs.declared.Verdict.the-variants as verdict
@@ -36,8 +37,8 @@ body-long s at n l = simp (length-take, length-drop) (omega arith)
 
 module _ (s : List ℕ) where
   -- only: no second answer meets the promise
-  pub only : (a b : Answer) → a ≡ jobAnswer s → b ≡ jobAnswer s → a ≡ b
-  only a b p q = p ∙ sym q
+  pub only : Sole (jobAnswer s)
+  only = sole _
 
   -- given: the faults of each field as they are met, 1 and 24 after field 2, 23; then what is left of the library's refusals, in its order
   abbrev pub tests : List Test

@@ -1,0 +1,124 @@
+-- Demand 1: bad input gets document 01's refusal number with its place; all other numbers of the answer are zero, and no lent buffer changes.
+-- Of every call, whatever buffers and numbers are handed in. That each call ends is what the check proves of a function with no `requires`.
+use Prim.Native.Nat.{ℕ}
+use mathlib.Core.List.{List}
+use mathlib.Core.Path.{_≡_, refl}
+use lib.Ieee.{binary64, ofBits}
+use lib.IntN.{pos}
+use lib.ListN.{length}
+use Rattle.window.specs.Verdict.{numberOf, placeOf}
+use Rattle.window.specs.declared.Verdict.{Verdict}
+use Rattle.window.proofs.Verdicts.{Test, Tabled, Refuses}
+use Rattle.raw.specs.Unpack.{unpackVerdict, unpackPaper, unpackBuffer}
+use Rattle.raw.proofs.Unpacks as raw-table
+use Rattle.raw.proofs.Promises as raw
+use Rattle.pair.specs.Pair.{pairVerdict}
+use Rattle.pair.specs.Answers as pair-answers
+use Rattle.pair.proofs.Promises as pair
+use Rattle.dark.specs.Dark.{darkVerdict, darkPaper}
+use Rattle.dark.proofs.Levels as dark-table
+use Rattle.dark.proofs.Promises as dark
+use Rattle.stack.specs.Add.{addVerdict, addPaper, addSums, addSquares}
+use Rattle.stack.specs.Variance as variance
+use Rattle.stack.proofs.Adds as add-table
+use Rattle.stack.proofs.Variances as variance-table
+use Rattle.stack.proofs.Promises as stack
+use Rattle.pattern.specs.Lines as pattern-lines
+use Rattle.pattern.specs.Figures.{noFigures}
+use Rattle.pattern.specs.Pattern.{patternVerdict, patternPaper}
+use Rattle.pattern.proofs.Judges as pattern-table
+use Rattle.pattern.proofs.Promises as pattern
+use Rattle.sites.specs.Find.{findVerdict, findPaper, findMask}
+use Rattle.sites.specs.Repair.{repairVerdict, repairPaper, repairFrame, repairMask}
+use Rattle.sites.proofs.Accepts.{find-tests, repair-tests}
+use Rattle.sites.proofs.FindPromises as finding
+use Rattle.sites.proofs.RepairPromises as repairing
+use Rattle.lines.specs.Lines as plane-lines
+use Rattle.lines.specs.Marks.{linesVerdict, linesPaper, linesBuffer}
+use Rattle.lines.proofs.Marking as lines-table
+use Rattle.lines.proofs.Promises as marking
+use Rattle.colour.specs.Colour.{colourVerdict, colourPaper, noRatio}
+use Rattle.colour.proofs.Judged as colour-table
+use Rattle.colour.proofs.Promises as colour
+use Rattle.stream.specs.Job.{jobVerdict, jobPaper}
+use Rattle.stream.proofs.Promises as stream
+
+-- of one call: what it tests, the number and the place of its answer, and what else is so where it refuses
+pub record Refusing (verdict : Verdict) (tests : List Test) (number place : ℕ) (Untouched : Type 0) : Type 0 where
+  -- a number is given, at a place, exactly where a test of the table has them and applies, and none before it does
+  pub given : Tabled verdict tests
+  -- these are the number and the place of the answer
+  pub told : (number ≡ numberOf verdict) × (place ≡ placeOf verdict)
+  -- where the number is not 0 the rest is untouched, and where it is 0 so is the place
+  pub refused : Refuses number place Untouched
+
+pub record Demand1 : Type 0 where
+  pub unpack-raw10 : (w h : ℕ) (bytes out : List ℕ)
+      → let paper = unpackPaper w h (length bytes) (length out) in
+      Refusing (unpackVerdict w h (length bytes) (length out)) (raw-table.tests w h (length bytes) (length out)) (paper .number) (paper .place)
+      (unpackBuffer w h bytes out ≡ out)
+  pub pair-variance : (w h full : ℕ) (mask first second : List ℕ)
+      → let paper = pair-answers.variancePaper w h full mask first second in
+      Refusing (pairVerdict w h full mask first second) (pair.tests w h full mask first second) (paper .number) (paper .place)
+      ((paper .p ≡ 0) × (paper .q ≡ 0) × (paper .variance ≡ ofBits binary64 0))
+  pub pair-noise : (w h full : ℕ) (mask first second : List ℕ)
+      → let paper = pair-answers.noisePaper w h full mask first second in
+      Refusing (pairVerdict w h full mask first second) (pair.tests w h full mask first second) (paper .number) (paper .place)
+      ((paper .noise ≡ ofBits binary64 0) × (paper .r ≡ 0) × (paper .n ≡ 0))
+  pub dark-level : (w h full black : ℕ) (mask frame : List ℕ)
+      → let paper = darkPaper w h full black mask frame in
+      Refusing (darkVerdict w h full black mask frame) (dark-table.tests w h full black mask frame) (paper .number) (paper .place)
+      ((paper .numerator ≡ pos 0) × (paper .denominator ≡ 0))
+  pub stack-add : (w h full k : ℕ) (mask frame sums squares : List ℕ)
+      → let paper = addPaper w h full k mask frame sums squares in
+      Refusing (addVerdict w h full k mask frame sums squares) (add-table.tests w h full k mask frame sums squares) (paper .number) (paper .place)
+      ((paper .count ≡ 0) × (addSums w h full k mask frame sums squares ≡ sums) × (addSquares w h full k mask frame sums squares ≡ squares))
+  pub stack-variance : (w h full k : ℕ) (mask sums squares : List ℕ)
+      → let paper = variance.variancePaper w h full k mask sums squares in
+      Refusing (variance.varianceVerdict w h full k mask sums squares) (variance-table.tests w h full k mask sums squares) (paper .number) (paper .place)
+      ((paper .numerator ≡ 0) × (paper .denominator ≡ 0) × (paper .variance ≡ ofBits binary64 0))
+  -- of columns it is the vertical call, of rows the horizontal one
+  pub pattern-noise : (lines : ℕ → ℕ → pattern-lines.Lines) (w h full k : ℕ) (mask sums : List ℕ)
+      → let paper = patternPaper lines w h full k mask sums in
+      Refusing (patternVerdict lines w h full k mask sums) (pattern-table.tests lines w h full k mask sums) (paper .number) (paper .place)
+      (paper .figures ≡ noFigures)
+  pub find-defects : (w h full t : ℕ) (mask frame out : List ℕ)
+      → let paper = findPaper w h full t mask frame (length out) in
+      Refusing (findVerdict w h full t mask frame (length out)) (find-tests w h full t mask frame (length out)) (paper .number) (paper .place)
+      ((paper .count ≡ 0) × (findMask w h full t mask frame out ≡ out))
+  pub repair : (w h full : ℕ) (mask frame outFrame outMask : List ℕ)
+      → let paper = repairPaper w h full mask frame (length outFrame) (length outMask) in
+      Refusing (repairVerdict w h full mask frame (length outFrame) (length outMask)) (repair-tests w h full mask frame (length outFrame) (length outMask)) (paper .number) (paper .place)
+      ((paper .count ≡ 0)
+      × (repairFrame w h full mask frame outFrame (length outMask) ≡ outFrame)
+      × (repairMask w h full mask frame (length outFrame) outMask ≡ outMask))
+  -- of rows and of columns
+  pub defective-lines : (lines : ℕ → ℕ → plane-lines.Lines) (w h full : ℕ) (mask frame marks : List ℕ)
+      → let paper = linesPaper lines w h full mask frame (length marks) in
+      Refusing (linesVerdict lines w h full mask frame (length marks)) (lines-table.tests lines w h full mask frame (length marks)) (paper .number) (paper .place)
+      (linesBuffer lines w h full mask frame marks ≡ marks)
+  pub colour-ratios : (w h full black order : ℕ) (mask frame : List ℕ)
+      → let paper = colourPaper w h full black order mask frame in
+      Refusing (colourVerdict w h full black order mask frame) (colour-table.tests w h full black order mask frame) (paper .number) (paper .place)
+      ((paper .r ≡ noRatio) × (paper .b ≡ noRatio) × (paper .gb ≡ noRatio))
+  pub job : (s : List ℕ)
+      → let paper = jobPaper s in
+      Refusing (jobVerdict s) (stream.tests s) (paper .number) (paper .place)
+      ((paper .sites ≡ 0) × (paper .p ≡ 0) × (paper .q ≡ 0) × (paper .r ≡ 0) × (paper .rOver ≡ 0) × (paper .dark ≡ pos 0) × (paper .darkOver ≡ 0))
+
+pub demand-1 : Demand1
+unfolding unpackPaper pair-answers.variancePaper pair-answers.noisePaper darkPaper addPaper variance.variancePaper patternPaper findPaper repairPaper linesPaper colourPaper jobPaper
+demand-1 = record {
+  unpack-raw10 = λ w h bytes out. record { given = raw.given w h bytes out; told = (refl, refl); refused = raw.refused w h bytes out };
+  pair-variance = λ w h full mask first second. record { given = pair.given w h full mask first second; told = (refl, refl); refused = pair.refused w h full mask first second .0 };
+  pair-noise = λ w h full mask first second. record { given = pair.given w h full mask first second; told = (refl, refl); refused = pair.refused w h full mask first second .1 };
+  dark-level = λ w h full black mask frame. record { given = dark.given w h full black mask frame; told = (refl, refl); refused = dark.refused w h full black mask frame };
+  stack-add = λ w h full k mask frame sums squares. record { given = stack.add-given w h full k mask frame sums squares; told = (refl, refl); refused = stack.add-refused w h full k mask frame sums squares };
+  stack-variance = λ w h full k mask sums squares. record { given = stack.variance-given w h full k mask sums squares; told = (refl, refl); refused = stack.variance-refused w h full k mask sums squares };
+  pattern-noise = λ lines w h full k mask sums. record { given = pattern.given lines w h full k mask sums; told = (refl, refl); refused = pattern.refused lines w h full k mask sums };
+  find-defects = λ w h full t mask frame out. record { given = finding.given w h full t mask frame out; told = (refl, refl); refused = finding.refused w h full t mask frame out };
+  repair = λ w h full mask frame outFrame outMask. record { given = repairing.given w h full mask frame outFrame outMask; told = (refl, refl); refused = repairing.refused w h full mask frame outFrame outMask };
+  defective-lines = λ lines w h full mask frame marks. record { given = marking.given lines w h full mask frame marks; told = (refl, refl); refused = marking.refused lines w h full mask frame marks };
+  colour-ratios = λ w h full black order mask frame. record { given = colour.given w h full black order mask frame; told = (refl, refl); refused = colour.refused w h full black order mask frame };
+  job = λ s. record { given = stream.given s; told = (refl, refl); refused = stream.refused s };
+}

@@ -1,0 +1,114 @@
+-- Demand 2: in every call that takes a mask only surveyed sites count: what a frame holds at any other site changes no figure, no verdict,
+-- no refusal. And no call turns a gap into anything else. `Agree mask f g`: f and g have one length, and hold the same at every surveyed site.
+use Prim.Native.Nat.{ℕ, _<_}
+use mathlib.Core.Bool.{true}
+use mathlib.Core.List.{List}
+use mathlib.Core.Logic.{_⊎_}
+use mathlib.Core.Path.{_≡_}
+use lib.ListN.{length, getD}
+use Rattle.window.specs.Shape.{sitesOf}
+use Rattle.window.specs.View.{surveyed}
+use Rattle.window.specs.declared.Verdict.the-variants as verdict
+use Rattle.window.proofs.Views.{Agree}
+use Rattle.pair.specs.Answers as pair-answers
+use Rattle.pair.proofs.Promises as pair
+use Rattle.dark.specs.Dark.{darkAnswer}
+use Rattle.dark.proofs.Promises as dark
+use Rattle.stack.specs.Add.{addAnswer, addSums, addSquares}
+use Rattle.stack.specs.Variance as variance
+use Rattle.stack.proofs.Promises as stack
+use Rattle.pattern.specs.Lines as pattern-lines
+use Rattle.pattern.specs.Pattern.{patternAnswer}
+use Rattle.pattern.proofs.Promises as pattern
+use Rattle.sites.specs.Find.{findVerdict, findAnswer, findPaper, findMask}
+use Rattle.sites.specs.Repair.{repairVerdict, repairAnswer, repairPaper, repairFrame, repairMask}
+use Rattle.sites.proofs.FindPromises as finding
+use Rattle.sites.proofs.RepairPromises as repairing
+use Rattle.lines.specs.Lines as plane-lines
+use Rattle.lines.specs.Marks.{linesAnswer, linesBuffer}
+use Rattle.lines.proofs.Promises as marking
+use Rattle.colour.specs.Colour.{colourAnswer}
+use Rattle.colour.proofs.Promises as colour
+use Rattle.stream.specs.Stream.{streamVerdict}
+use Rattle.stream.specs.Job.{jobAnswer}
+use Rattle.stream.proofs.Promises as stream
+
+-- ---- only surveyed sites count
+pub record Blind : Type 0 where
+  pub pair-noise : (w h full : ℕ) {mask first first′ second second′ : List ℕ} → Agree mask first first′ → Agree mask second second′
+      → (pair-answers.varianceAnswer w h full mask first second ≡ pair-answers.varianceAnswer w h full mask first′ second′)
+      × (pair-answers.noiseAnswer w h full mask first second ≡ pair-answers.noiseAnswer w h full mask first′ second′)
+  pub dark-level : (w h full black : ℕ) (mask frame other : List ℕ) → Agree mask frame other
+      → darkAnswer w h full black mask frame ≡ darkAnswer w h full black mask other
+  -- a frame, and a stack's sums; other sites' sums stay as they were
+  pub stack-add : (w h full k : ℕ) (mask frame sums squares frame′ sums′ squares′ : List ℕ)
+      → Agree mask frame frame′ → Agree mask sums sums′ → Agree mask squares squares′
+      → addAnswer w h full k mask frame sums squares ≡ addAnswer w h full k mask frame′ sums′ squares′
+  pub stack-sums : (w h full k : ℕ) (mask frame sums squares frame′ sums′ squares′ : List ℕ)
+      → Agree mask frame frame′ → Agree mask sums sums′ → Agree mask squares squares′ → (i : ℕ) → surveyed (getD mask i 0) ≡ true
+      → (getD (addSums w h full k mask frame sums squares) i 0 ≡ getD (addSums w h full k mask frame′ sums′ squares′) i 0)
+      × (getD (addSquares w h full k mask frame sums squares) i 0 ≡ getD (addSquares w h full k mask frame′ sums′ squares′) i 0)
+  pub stack-keeps : (w h full k : ℕ) (mask frame sums squares : List ℕ) (i : ℕ) → (getD mask i 0 ≡ 0 → ⊥)
+      → (getD (addSums w h full k mask frame sums squares) i 0 ≡ getD sums i 0)
+      × (getD (addSquares w h full k mask frame sums squares) i 0 ≡ getD squares i 0)
+  pub stack-variance : (w h full k : ℕ) (mask sums squares sums′ squares′ : List ℕ) → Agree mask sums sums′ → Agree mask squares squares′
+      → variance.varianceAnswer w h full k mask sums squares ≡ variance.varianceAnswer w h full k mask sums′ squares′
+  -- of columns it is the vertical call, of rows the horizontal one
+  pub pattern-noise : (lines : ℕ → ℕ → pattern-lines.Lines) (w h full k : ℕ) (mask : List ℕ) {sums others : List ℕ} → Agree mask sums others
+      → patternAnswer lines w h full k mask sums ≡ patternAnswer lines w h full k mask others
+  pub find-defects : (w h full t : ℕ) (mask frame out other : List ℕ) → Agree mask frame other
+      → (findAnswer w h full t mask frame (length out) ≡ findAnswer w h full t mask other (length out))
+      × ((findPaper w h full t mask frame (length out) ≡ findPaper w h full t mask other (length out))
+      × (findMask w h full t mask frame out ≡ findMask w h full t mask other out))
+  -- the answer and the mask, and the sample of every site that is surveyed or filled; any other sample is copied
+  pub repair : (w h full : ℕ) (mask frame outFrame outMask other : List ℕ) → Agree mask frame other
+      → (repairAnswer w h full mask frame (length outFrame) (length outMask) ≡ repairAnswer w h full mask other (length outFrame) (length outMask))
+      × ((repairPaper w h full mask frame (length outFrame) (length outMask) ≡ repairPaper w h full mask other (length outFrame) (length outMask))
+      × (repairMask w h full mask frame (length outFrame) outMask ≡ repairMask w h full mask other (length outFrame) outMask))
+  pub repaired-samples : (w h full : ℕ) (mask frame other outFrame outMask : List ℕ) → Agree mask frame other
+      → repairVerdict w h full mask frame (length outFrame) (length outMask) ≡ verdict.Clear → (i : ℕ) → i < sitesOf w h
+      → (getD mask i 0 ≡ 0) ⊎ ((getD mask i 0 ≡ 2) × (getD (repairMask w h full mask frame (length outFrame) outMask) i 0 ≡ 3))
+      → getD (repairFrame w h full mask frame outFrame (length outMask)) i 0 ≡ getD (repairFrame w h full mask other outFrame (length outMask)) i 0
+  -- of rows and of columns
+  pub defective-lines : (lines : ℕ → ℕ → plane-lines.Lines) (w h full : ℕ) (mask frame marks other : List ℕ) → Agree mask frame other
+      → (linesAnswer lines w h full mask frame (length marks) ≡ linesAnswer lines w h full mask other (length marks))
+      × (linesBuffer lines w h full mask frame marks ≡ linesBuffer lines w h full mask other marks)
+  pub colour-ratios : (w h full black order : ℕ) (mask frame other : List ℕ) → Agree mask frame other
+      → colourAnswer w h full black order mask frame ≡ colourAnswer w h full black order mask other
+  -- two streams of one window, full scale, black level and mask, whose frames agree at the surveyed sites
+  pub job : (s t : List ℕ) → stream.Alike s t → streamVerdict s ≡ verdict.Clear → streamVerdict t ≡ verdict.Clear → jobAnswer s ≡ jobAnswer t
+
+-- ---- a gap stays a gap, in the two masks that are written
+pub record Gaps : Type 0 where
+  pub find-defects : (w h full t : ℕ) (mask frame out : List ℕ) → findVerdict w h full t mask frame (length out) ≡ verdict.Clear
+      → (i : ℕ) → i < sitesOf w h → getD mask i 0 ≡ 1 → getD (findMask w h full t mask frame out) i 0 ≡ 1
+  -- and keeps its sample
+  pub repair : (w h full : ℕ) (mask frame outFrame outMask : List ℕ)
+      → repairVerdict w h full mask frame (length outFrame) (length outMask) ≡ verdict.Clear
+      → (i : ℕ) → i < sitesOf w h → getD mask i 0 ≡ 1
+      → (getD (repairMask w h full mask frame (length outFrame) outMask) i 0 ≡ 1)
+      × (getD (repairFrame w h full mask frame outFrame (length outMask)) i 0 ≡ getD frame i 0)
+
+pub record Demand2 : Type 0 where
+  pub blind : Blind
+  pub gaps : Gaps
+
+pub demand-2 : Demand2
+demand-2 = record {
+  blind = record {
+    pair-noise = λ w h full a b. pair.blind w h full a b;
+    dark-level = dark.blind;
+    stack-add = stack.add-blind;
+    stack-sums = stack.add-blind-sums;
+    stack-keeps = stack.add-keeps;
+    stack-variance = stack.variance-blind;
+    pattern-noise = λ lines w h full k mask a. pattern.blind lines w h full k mask a;
+    find-defects = finding.blind;
+    repair = repairing.blind;
+    repaired-samples = repairing.blind-samples;
+    defective-lines = marking.blind;
+    colour-ratios = colour.blind;
+    job = stream.blind;
+  };
+  gaps = record { find-defects = finding.gap-stays; repair = repairing.gap-stays };
+}

@@ -1,0 +1,67 @@
+-- Every promise leaves one answer and one final state of every buffer. `Sole x`: any two that are x are one.
+use Prim.Native.Nat.{ℕ}
+use mathlib.Core.List.{List}
+use lib.ListN.{length}
+use Rattle.laws.proofs.Sole.{Sole}
+use Rattle.raw.specs.Unpack.{unpackAnswer, unpackBuffer}
+use Rattle.raw.proofs.Promises as raw
+use Rattle.pair.specs.Answers as pair-answers
+use Rattle.pair.proofs.Promises as pair
+use Rattle.dark.specs.Dark.{darkAnswer}
+use Rattle.dark.proofs.Promises as dark
+use Rattle.stack.specs.Add.{addAnswer, addSums, addSquares}
+use Rattle.stack.specs.Variance as variance
+use Rattle.stack.proofs.Promises as stack
+use Rattle.pattern.specs.Lines as pattern-lines
+use Rattle.pattern.specs.Pattern.{patternAnswer}
+use Rattle.pattern.proofs.Promises as pattern
+use Rattle.sites.specs.Find.{findAnswer, findMask}
+use Rattle.sites.specs.Repair.{repairAnswer, repairFrame, repairMask}
+use Rattle.sites.proofs.FindPromises as finding
+use Rattle.sites.proofs.RepairPromises as repairing
+use Rattle.lines.specs.Lines as plane-lines
+use Rattle.lines.specs.Marks.{linesAnswer, linesBuffer}
+use Rattle.lines.proofs.Promises as marking
+use Rattle.colour.specs.Colour.{colourAnswer}
+use Rattle.colour.proofs.Promises as colour
+use Rattle.stream.specs.Job.{jobAnswer}
+use Rattle.stream.proofs.Promises as stream
+
+pub record OneAnswer : Type 0 where
+  pub unpack-raw10 : (w h : ℕ) (bytes out : List ℕ)
+      → Sole (unpackAnswer w h (length bytes) (length out)) × Sole (unpackBuffer w h bytes out)
+  pub pair-noise : (w h full : ℕ) (mask first second : List ℕ)
+      → Sole (pair-answers.varianceAnswer w h full mask first second) × Sole (pair-answers.noiseAnswer w h full mask first second)
+  pub dark-level : (w h full black : ℕ) (mask frame : List ℕ) → Sole (darkAnswer w h full black mask frame)
+  pub stack-add : (w h full k : ℕ) (mask frame sums squares : List ℕ)
+      → Sole (addAnswer w h full k mask frame sums squares)
+      × Sole (addSums w h full k mask frame sums squares)
+      × Sole (addSquares w h full k mask frame sums squares)
+  pub stack-variance : (w h full k : ℕ) (mask sums squares : List ℕ) → Sole (variance.varianceAnswer w h full k mask sums squares)
+  pub pattern-noise : (lines : ℕ → ℕ → pattern-lines.Lines) (w h full k : ℕ) (mask sums : List ℕ)
+      → Sole (patternAnswer lines w h full k mask sums)
+  pub find-defects : (w h full t : ℕ) (mask frame out : List ℕ)
+      → Sole (findAnswer w h full t mask frame (length out)) × Sole (findMask w h full t mask frame out)
+  pub repair : (w h full : ℕ) (mask frame outFrame outMask : List ℕ)
+      → Sole (repairAnswer w h full mask frame (length outFrame) (length outMask))
+      × Sole (repairFrame w h full mask frame outFrame (length outMask))
+      × Sole (repairMask w h full mask frame (length outFrame) outMask)
+  pub defective-lines : (lines : ℕ → ℕ → plane-lines.Lines) (w h full : ℕ) (mask frame marks : List ℕ)
+      → Sole (linesAnswer lines w h full mask frame (length marks)) × Sole (linesBuffer lines w h full mask frame marks)
+  pub colour-ratios : (w h full black order : ℕ) (mask frame : List ℕ) → Sole (colourAnswer w h full black order mask frame)
+  pub job : (s : List ℕ) → Sole (jobAnswer s)
+
+pub one-answer : OneAnswer
+one-answer = record {
+  unpack-raw10 = raw.only;
+  pair-noise = pair.only;
+  dark-level = dark.only;
+  stack-add = stack.add-only;
+  stack-variance = stack.variance-only;
+  pattern-noise = pattern.only;
+  find-defects = finding.only;
+  repair = repairing.only;
+  defective-lines = marking.only;
+  colour-ratios = colour.only;
+  job = stream.only;
+}
