@@ -162,7 +162,15 @@ pub blind : (w h full : ℕ) {mask first first′ second second′ : List ℕ} �
 unfolding varianceAnswer noiseAnswer pairVerdict framesOf
 blind w h full a b = rw (a .long, b .long, same-view a, same-view b) (refl, refl)
 
--- one buffer given twice has P = 0
-pub twice : (w h full : ℕ) (mask frame : List ℕ) (p q : ℕ) (x : Float) → varianceAnswer w h full mask frame frame ≡ variance.Figures p q x → p ≡ 0
-twice w h full mask frame p q x e =
-    flat w h full mask frame frame p q x e .1 (λ i j k l a b. ⊖-self (getD frame i 0) ∙ sym (⊖-self (getD frame j 0)))
+-- one buffer given twice has P = 0, and both floats are 0
+twice-none : (w h : ℕ) (mask frame : List ℕ) → pairSpread w h mask frame frame .p ≡ 0
+twice-none w h mask frame =
+    same-zero mask frame frame (sitesOf w h) (λ i j k l a b. ⊖-self (getD frame i 0) ∙ sym (⊖-self (getD frame j 0)))
+
+pub twice : (w h full : ℕ) (mask frame : List ℕ)
+    → ((p q : ℕ) (x : Float) → varianceAnswer w h full mask frame frame ≡ variance.Figures p q x → (p ≡ 0) × (x ≡ ofBits binary64 0))
+    × ((x : Float) (r n : ℕ) → noiseAnswer w h full mask frame frame ≡ noise.Figure x r n → x ≡ ofBits binary64 0)
+twice w h full mask frame = (
+  λ p q x e. let zero = whole-numbers w h full mask frame frame p q x e .0 ∙ twice-none w h mask frame in (zero, none w h full mask frame frame p q x e zero),
+  λ x r n e. noise-none w h full mask frame frame x r n e (twice-none w h mask frame),
+)

@@ -6,7 +6,7 @@ use mathlib.Core.Path.{_≡_, refl, sym, ap, _∙_}
 use native.Mathlib.Nat.{mul-pos}
 use native.Mathlib.Omega.{arith}
 use lib.Dec.{leb}
-use lib.Ieee.{binary64, ofBits}
+use lib.Ieee.{Float, binary64, ofBits}
 use lib.ListN.{length, getD, replicate, length-replicate}
 use borrow.Author.Tests.{lt-leb}
 use Rattle.window.proofs.Sides.{frame-count, scale, sites-few}
@@ -15,10 +15,12 @@ use Rattle.laws.specs.Sum.{sumTo}
 use Rattle.laws.proofs.Tables.{getD-tabulate}
 use Rattle.laws.proofs.Sole.{Sole, sole}
 use Rattle.exact.specs.Quotient.{floatZero}
-use Rattle.exact.proofs.Quotients.{quotient-zero}
+use Rattle.exact.specs.Bound.{CloseTo}
+use Rattle.exact.proofs.Quotients.{quotient-near, quotient-zero}
 use Rattle.window.specs.View.{surveyed, seen, one}
 use Rattle.window.specs.Verdict.{_⨟_, refuseIf, ifClear}
 use Rattle.window.specs.Judge.{shapeOf, otherThan, codesOf}
+use Rattle.window.specs.declared.Refusal.{Refusal}
 use Rattle.window.specs.declared.Verdict.{Verdict}
 use Rattle.window.specs.declared.Verdict.the-variants as verdict
 use Rattle.window.proofs.Verdicts.{Tabled, Refuses, refuses, then-same, then-end, unless}
@@ -27,7 +29,7 @@ use Rattle.window.proofs.Chains.{shape-clear}
 use Rattle.stack.specs.Sums.{impossibleIn, squared, added, spread}
 use Rattle.stack.specs.Add.{addVerdict, addAnswer, addPaper, addSums, addSquares}
 use Rattle.stack.specs.Variance.{tooFew, varianceVerdict, varianceAnswer, variancePaper}
-use Rattle.stack.specs.Run.{Stack, run, runVerdict, overFrames}
+use Rattle.stack.specs.Run.{Stack, offered, run, runVerdict, overFrames}
 use Rattle.stack.specs.declared.Variance.{Variance}
 use Rattle.stack.specs.declared.Variance.the-variants.{Figures}
 use Rattle.stack.proofs.Sites.{all-possible}
@@ -124,6 +126,12 @@ module _ (w h full k : ℕ) (mask sums squares : List ℕ) where
         variances.spread-exact (sitesOf w h) full k (seen mask sums) (seen mask squares) (sites-few w h) (scale full legal .high) most possible,
       )
 
+  -- of an accepted variance: the float is within one part in 2^52 of the fraction
+  pub variance-near : (p q : ℕ) (x : Float) → varianceAnswer w h full k mask sums squares ≡ Figures p q x → CloseTo (2 ^ 52) x p q
+  variance-near p q x e =
+      let is = variances.answer-is w h full k mask sums squares p q x e in
+      rw (is .3, is .1, is .2) (quotient-near _ _ (variances.ranged w h full k mask sums squares (variances.accepted w h full k mask sums squares (is .0))))
+
   unmet : full ≤ 4095 → k ≤ 100 → impossibleIn (sitesOf w h) full k (seen mask sums) (seen mask squares) ≡ false
       → refuseIf 14 0 (leb (2 ^ 53) (spread (sitesOf w h) k (seen mask sums) (seen mask squares))) ≡ verdict.Clear
   unfolding refuseIf
@@ -156,6 +164,12 @@ module _ (w h full k : ℕ) (mask sums squares : List ℕ) where
 
 -- ---- runs of frames, from zero sums, with one window, full scale and mask
 module _ (w h full : ℕ) (mask : List ℕ) where
+  -- a frame that is refused leaves the stack as it was
+  pub run-refused : (s : Stack) (frame : List ℕ) (r : Refusal) → addVerdict w h full (s .frames) mask frame (s .sums) (s .squares) ≡ verdict.Refused r
+      → offered w h full mask s frame ≡ s
+  unfolding offered addSums addSquares
+  run-refused s frame r e = rw e
+
   -- accepted frames are counted
   pub run-counts : (fs : List (List ℕ)) → runVerdict w h full mask fs ≡ verdict.Clear → run w h full mask fs .frames ≡ length fs
   run-counts fs clear = ap (λ (s : Stack). s .frames) (run-is w h full mask fs clear)

@@ -15,18 +15,19 @@ use Rattle.window.proofs.Walks.{walked-whole}
 use Rattle.laws.specs.Sum.{sumTo}
 use Rattle.laws.proofs.Cases.{neither, times-le}
 use Rattle.laws.proofs.Sums.{sum-le}
-use Rattle.exact.specs.Quotient.{quotientOrZero}
+use Rattle.exact.specs.Quotient.{quotient, quotientOrZero}
 use Rattle.exact.proofs.Quotients.{Ranged, ranged-quotient}
 use Rattle.window.specs.View.{badCode, seen, one}
 use Rattle.window.specs.Verdict.{_⨟_, refuseIf, refuseFirst}
 use Rattle.window.specs.Judge.{shapeOf, otherThan, codesOf, walked}
 use Rattle.window.specs.declared.Refusal.{Refusal}
+use Rattle.window.specs.declared.Verdict.{Verdict}
 use Rattle.window.specs.declared.Verdict.the-variants as verdict
 use Rattle.window.proofs.Verdicts.{Test, Tabled, test, testFirst, tabled, passed-head, passed-tail, then-same, unless}
 use Rattle.window.proofs.Views.{surveyed-few}
 use Rattle.window.proofs.Chains.{shape-then, shape-clear, same-length, measured, codes-whole}
 use Rattle.stack.specs.Sums.{impossibleIn, spread, readable}
-use Rattle.stack.specs.Variance.{tooFew, varianceVerdict, varianceAnswer, variancePaperOf, variancePaper}
+use Rattle.stack.specs.Variance.{tooFew, varianceVerdict, figured, varianceAnswer, variancePaperOf, variancePaper}
 use Rattle.stack.specs.declared.Variance.the-variants.{Figures, Refused}
 use Rattle.stack.proofs.Sites.{Possible, readable-whole, all-possible}
 
@@ -141,6 +142,17 @@ module _ (w h full k : ℕ) (mask sums squares : List ℕ) where
           some = mul-pos (a .some) (mul-pos frames frames);
           bottom = omega (arith, times-le (sumTo (sitesOf w h) (one mask)) (k * k) 16384 10000 few-enough square);
         }
+
+  -- what a variance that is answered says
+  pub answer-is : (p q : ℕ) (x : Float) → varianceAnswer w h full k mask sums squares ≡ Figures p q x
+      → (varianceVerdict w h full k mask sums squares ≡ verdict.Clear)
+      × (p ≡ spread (sitesOf w h) k (seen mask sums) (seen mask squares)) × (q ≡ sumTo (sitesOf w h) (one mask) * (k * k)) × (x ≡ quotient p q)
+  unfolding varianceAnswer
+  answer-is p q x = by (varianceVerdict w h full k mask sums squares)
+    where
+      by : (v : Verdict) {a b : ℕ} → figured v a b ≡ Figures p q x → (v ≡ verdict.Clear) × (p ≡ a) × (q ≡ b) × (x ≡ quotient p q)
+      by verdict.Clear e = (refl, cc, cc, cc)
+      by (verdict.Refused r) e = let z : _≡_ {A = ℕ} 0 1 = cc in absurd (omega arith)
 
   pub refused-is : (r : Refusal) → varianceVerdict w h full k mask sums squares ≡ verdict.Refused r
       → (Refused r ≡ varianceAnswer w h full k mask sums squares) × (variancePaperOf (Refused r) ≡ variancePaper w h full k mask sums squares)
