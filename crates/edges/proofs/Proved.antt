@@ -14,7 +14,7 @@ use Rattle.window.specs.View.{seenAt, seen, one}
 use Rattle.exact.specs.Root.{root, rootTo}
 use Rattle.raw.specs.Packed.{joined, sampleAt}
 use Rattle.raw.specs.Unpack.{unpackVerdict, unpackAnswer, unpackBuffer}
-use Rattle.pair.specs.Pair.{numerator, spreadOf, framesOf, pairVerdict}
+use Rattle.pair.specs.Pair.{numerator, spreadOf, framesVerdict, pairVerdict}
 use Rattle.pair.specs.Answers.{varianceAnswer, noiseAnswer}
 use Rattle.dark.specs.Dark.{aboveBlack, darkVerdict, darkAnswer}
 use Rattle.sites.specs.Near.{nearSum}
@@ -27,7 +27,7 @@ use Rattle.lines.specs.Marks.{linesVerdict, linesAnswer, linesBuffer}
 use Rattle.edges.specs.Table.{Edges, Beside}
 
 pub edges : Edges
-unfolding round ofBits firstTo greatestTo _⊖_ sumToℤ sumTo sumIn sumBox tabulate shapeOf boxSum badSide badSides badScale sitesOf _⨟_ refuseIf refuseFirst seenAt seen one root rootTo joined sampleAt unpackVerdict unpackAnswer unpackBuffer numerator spreadOf framesOf pairVerdict varianceAnswer noiseAnswer aboveBlack darkVerdict darkAnswer nearSum usedThreshold far foundAt markedAt foundCount findVerdict findAnswer findMask lineTotal stepOf standsOut deviation figuresOf badCount patternVerdict patternAnswer before after pooled defective markOf markAt linesVerdict linesAnswer linesBuffer
+unfolding round ofBits firstTo greatestTo _⊖_ sumToℤ sumTo sumIn sumBox tabulate shapeOf boxSum badSide badSides badScale sitesOf _⨟_ refuseIf refuseFirst seenAt seen one root rootTo joined sampleAt unpackVerdict unpackAnswer unpackBuffer numerator spreadOf framesVerdict pairVerdict varianceAnswer noiseAnswer aboveBlack darkVerdict darkAnswer nearSum usedThreshold far foundAt markedAt foundCount findVerdict findAnswer findMask lineTotal stepOf standsOut deviation figuresOf badCount patternVerdict patternAnswer before after pooled defective markOf markAt linesVerdict linesAnswer linesBuffer
 edges = record {
   K1 = (refl, refl, refl);
   K2 = (refl, refl, refl);

@@ -20,7 +20,8 @@ use Rattle.window.proofs.Sides.{Sides, sides}
 use Rattle.window.proofs.Walks.{walked-whole}
 use Rattle.window.proofs.Verdicts.{Test, Tabled, test, testFirst, tabled, passed-head, passed-tail, then-same}
 use Rattle.window.proofs.Chains.{shape-then, shape-clear, same-length, measured, codes-whole, samples-whole}
-use Rattle.lines.specs.Lines.{Lines, lined, markAt}
+use Rattle.lines.specs.Lines.{Lines, markAt}
+use Rattle.lines.specs.Walk.{lined}
 use Rattle.lines.specs.Marks.{marksOf, linesVerdict, answered, linesAnswer, linesPaper, linesBuffer}
 use Rattle.lines.specs.declared.Marked.the-variants.{Done, Refused}
 

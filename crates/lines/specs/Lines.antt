@@ -1,6 +1,6 @@
 -- Document 01, "Defective rows and columns": the lines of a plane, and which of them is defective. "Columns likewise": one definition, over the lines.
 use Prim.Native.Nat.{ℕ, _+_, _-_, _*_, _/_, _%_}
-use mathlib.Core.Bool.{Bool, true, false, cond, _&&_}
+use mathlib.Core.Bool.{Bool, cond, _&&_}
 use lib.Dec.{ltb}
 use Rattle.laws.specs.Sum.{sumIn}
 use Rattle.laws.specs.Signed.{apart}
@@ -18,11 +18,6 @@ rows w h = record { count = h / 2; line = λ (l : ℕ). record { top = l; bottom
 
 abbrev pub columns : ℕ → ℕ → Lines
 columns w h = record { count = w / 2; line = λ (l : ℕ). record { top = 0; bottom = h / 2; left = l; right = l + 1 } }
-
--- the lines of a direction
-abbrev pub lined : Bool → ℕ → ℕ → Lines
-lined true = columns
-lined false = rows
 
 -- the line j before l, and the line j after it, of n: mirrored at the edge without repeating it, so line −1 is line 1.
 -- One reflection is enough: 9 has made sure that there are more than 8 lines

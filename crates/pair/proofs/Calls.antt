@@ -12,7 +12,7 @@ use Rattle.window.specs.declared.Refusal.{Refusal}
 use Rattle.window.specs.declared.Verdict.{Verdict}
 use Rattle.window.specs.declared.Verdict.the-variants as verdict
 use Rattle.pair.specs.Pair.{Figures, figuresOf, pairSpread, pairVerdict}
-use Rattle.pair.specs.Answers.{varianceFrom, noiseFrom, varianceAnswer, variancePaperOf, variancePaper, noiseAnswer, noisePaperOf, noisePaper}
+use Rattle.pair.specs.Answers.{varianceAnswered, noiseAnswered, varianceAnswer, variancePaperOf, variancePaper, noiseAnswer, noisePaperOf, noisePaper}
 use Rattle.pair.specs.declared.Spread.{Spread}
 use Rattle.pair.specs.declared.Variance.the-variants as variance
 use Rattle.pair.specs.declared.Noise.the-variants as noise
@@ -57,12 +57,12 @@ module _ (w h full : ℕ) (mask first second : List ℕ) where
         rw (d, f, e, near, clear) (refl, refl)
 
 -- ---- from an accepted answer back to what it is of
-variance-of : (v : Verdict) (f : Figures) (p q : ℕ) (x : Float) → varianceFrom v f ≡ variance.Figures p q x
+variance-of : (v : Verdict) (f : Figures) (p q : ℕ) (x : Float) → varianceAnswered v f ≡ variance.Figures p q x
     → (v ≡ verdict.Clear) × (p ≡ f .p) × (q ≡ f .q) × (x ≡ f .variance)
 variance-of verdict.Clear f p q x e = (refl, cc, cc, cc)
 variance-of (verdict.Refused r) f p q x e = let z : _≡_ {A = ℕ} 0 1 = cc in absurd (omega arith)
 
-noise-of : (v : Verdict) (f : Figures) (x : Float) (r n : ℕ) → noiseFrom v f ≡ noise.Figure x r n
+noise-of : (v : Verdict) (f : Figures) (x : Float) (r n : ℕ) → noiseAnswered v f ≡ noise.Figure x r n
     → (v ≡ verdict.Clear) × (x ≡ f .noise) × (r ≡ f .r) × (n ≡ f .n)
 noise-of verdict.Clear f x r n e = (refl, cc, cc, cc)
 noise-of (verdict.Refused q) f x r n e = let z : _≡_ {A = ℕ} 0 1 = cc in absurd (omega arith)

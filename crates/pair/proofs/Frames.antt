@@ -12,7 +12,7 @@ use Rattle.window.specs.declared.Verdict.the-variants as verdict
 use Rattle.window.proofs.Sides.{Sides, Scale}
 use Rattle.window.proofs.Verdicts.{then-clear, unless}
 use Rattle.window.proofs.Chains.{shape-clear, same-length, samples-clear, measured, codes-whole, samples-whole}
-use Rattle.pair.specs.Pair.{framesOf}
+use Rattle.pair.specs.Pair.{framesVerdict}
 
 module _ (w h full : ℕ) (mask first second : List ℕ) where
   -- what `window::samples` asks of a frame
@@ -26,8 +26,8 @@ module _ (w h full : ℕ) (mask first second : List ℕ) where
       ⨟ codesOf (walked w h (length mask)) mask
       ⨟ over first
       ⨟ over second
-      ≡ framesOf w h full mask first second
-  unfolding framesOf
+      ≡ framesVerdict w h full mask first second
+  unfolding framesVerdict
   judged =
       ap (λ (v : Verdict). shapeOf w h full ⨟ v)
       (measured _ _ (λ m. measured _ _ (λ f. measured _ _ (λ s.
@@ -44,8 +44,8 @@ pub record Readable (w h full : ℕ) (mask first second : List ℕ) : Type 0 whe
   pub in-second : (i : ℕ) → i < sitesOf w h → seen mask second i ≤ full
 
 module _ (w h full : ℕ) (mask first second : List ℕ) where
-  pub readable : framesOf w h full mask first second ≡ verdict.Clear → Readable w h full mask first second
-  unfolding framesOf
+  pub readable : framesVerdict w h full mask first second ≡ verdict.Clear → Readable w h full mask first second
+  unfolding framesVerdict
   readable e =
       let n = sitesOf w h in
       let shape = then-clear _ _ e in

@@ -22,7 +22,8 @@ use Rattle.window.specs.declared.Verdict.the-variants as verdict
 use Rattle.window.proofs.Sides.{sites-few}
 use Rattle.window.proofs.Verdicts.{then-clear, then-end, unless}
 use Rattle.window.proofs.Views.{one-le}
-use Rattle.pair.specs.Pair.{spreadOf, pairSpread, framesOf, pairVerdict, measurement}
+use Rattle.pair.specs.Pair.{spreadOf, pairSpread, framesVerdict, pairVerdict}
+use Rattle.pair.specs.Walk.{measurement}
 use Rattle.pair.specs.declared.Spread.{Spread}
 use Rattle.pair.specs.declared.Measurement.the-variants as taken
 use Rattle.pair.proofs.Frames.{Readable, readable}
@@ -44,19 +45,19 @@ few-surveyed w h mask =
 
 module _ (w h full : ℕ) (mask first second : List ℕ) where
   -- what the walk asks of the lengths
-  pub lent : framesOf w h full mask first second ≡ verdict.Clear
+  pub lent : framesVerdict w h full mask first second ≡ verdict.Clear
       → (length mask ≤ 16384) × (length first ≡ length mask) × (length second ≡ length mask)
   lent e =
       let r = readable w h full mask first second e in
       (omega (arith, sites-few w h, r .of-mask), r .of-first ∙ sym (r .of-mask), r .of-second ∙ sym (r .of-mask))
 
-  pub frames-refused : (r : Refusal) → framesOf w h full mask first second ≡ verdict.Refused r
+  pub frames-refused : (r : Refusal) → framesVerdict w h full mask first second ≡ verdict.Refused r
       → taken.Refused r ≡ measurement (pairVerdict w h full mask first second) (pairSpread w h mask first second)
   unfolding pairVerdict _⨟_
   frames-refused r e = rw e
 
   -- past 1 to 6, s being n and P
-  module _ (s : Spread) (clear : framesOf w h full mask first second ≡ verdict.Clear)
+  module _ (s : Spread) (clear : framesVerdict w h full mask first second ≡ verdict.Clear)
       (e : s ≡ spreadOf (length mask) (one mask) (seen mask first) (seen mask second)) where
     same-spread : s ≡ pairSpread w h mask first second
     same-spread = e ∙ ap (λ (n : ℕ). spreadOf n (one mask) (seen mask first) (seen mask second)) (readable w h full mask first second clear .of-mask)

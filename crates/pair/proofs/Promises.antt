@@ -25,7 +25,7 @@ use Rattle.window.specs.Judge.{shapeOf, otherThan}
 use Rattle.window.specs.declared.Verdict.the-variants as verdict
 use Rattle.window.proofs.Verdicts.{Test, Tabled, Refuses, test, testFirst, tabled, refuses, then-assoc, then-same}
 use Rattle.window.proofs.Views.{Agree, same-view}
-use Rattle.pair.specs.Pair.{difference, numerator, spreadOf, pairSpread, framesOf, pairVerdict}
+use Rattle.pair.specs.Pair.{difference, numerator, spreadOf, pairSpread, framesVerdict, pairVerdict}
 use Rattle.pair.specs.Answers.{varianceAnswer, variancePaper, noiseAnswer, noisePaper}
 use Rattle.pair.specs.declared.Variance.the-variants as variance
 use Rattle.pair.specs.declared.Noise.the-variants as noise
@@ -56,7 +56,7 @@ module _ (w h full : ℕ) (mask first second : List ℕ) where
 
   -- given: both calls refuse exactly as document 01 tables it
   pub given : Tabled (pairVerdict w h full mask first second) tests
-  unfolding pairVerdict framesOf shapeOf refuseFirst
+  unfolding pairVerdict framesVerdict shapeOf refuseFirst
   given = simp then-assoc (tabled _ _)
 
   -- refused: where the number is not 0 every other number but the place is 0, and where it is 0 so is the place
@@ -76,13 +76,13 @@ module _ (w h full : ℕ) (mask first second : List ℕ) where
   )
 
   -- 14 is never given: P stays below 2^53 for any two frames that 1 to 6 let pass, and no answer changes without the test
-  pub in-limits : framesOf w h full mask first second ≡ verdict.Clear → pairSpread w h mask first second .p < 2 ^ 53
+  pub in-limits : framesVerdict w h full mask first second ≡ verdict.Clear → pairSpread w h mask first second .p < 2 ^ 53
   in-limits e = below-53 w h full mask first second (readable w h full mask first second e)
 
   pub spare : pairVerdict w h full mask first second
-      ≡ framesOf w h full mask first second ⨟ refuseIf 7 0 (ltb (pairSpread w h mask first second .n) 2)
+      ≡ framesVerdict w h full mask first second ⨟ refuseIf 7 0 (ltb (pairSpread w h mask first second .n) 2)
   unfolding pairVerdict
-  spare = then-same (framesOf w h full mask first second) (λ e. last-exact (pairSpread w h mask first second) (in-limits e))
+  spare = then-same (framesVerdict w h full mask first second) (λ e. last-exact (pairSpread w h mask first second) (in-limits e))
 
   -- both calls refuse alike, and so accept alike
   pub alike : (variancePaper w h full mask first second .number ≡ noisePaper w h full mask first second .number)
@@ -159,7 +159,7 @@ module _ (w h full : ℕ) (mask first second : List ℕ) where
 pub blind : (w h full : ℕ) {mask first first′ second second′ : List ℕ} → Agree mask first first′ → Agree mask second second′
     → (varianceAnswer w h full mask first second ≡ varianceAnswer w h full mask first′ second′)
     × (noiseAnswer w h full mask first second ≡ noiseAnswer w h full mask first′ second′)
-unfolding varianceAnswer noiseAnswer pairVerdict framesOf
+unfolding varianceAnswer noiseAnswer pairVerdict framesVerdict
 blind w h full a b = rw (a .long, b .long, same-view a, same-view b) (refl, refl)
 
 -- one buffer given twice has P = 0, and both floats are 0

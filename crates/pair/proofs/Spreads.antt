@@ -17,7 +17,7 @@ use Rattle.laws.proofs.Squares.{Counted, squares, excess, schwarz, none-equal, 
 use Rattle.window.specs.View.{surveyed, seenAt, one, seen}
 use Rattle.laws.proofs.Cases.{times-le, true-or-false}
 use Rattle.window.proofs.Views.{seen-in, seen-out, seen-is, one-is}
-use Rattle.pair.specs.Sums.{totalsOf}
+use Rattle.pair.specs.Walk.{totalsOf}
 use Rattle.pair.specs.Pair.{difference, numerator, spreadOf}
 use Rattle.pair.specs.declared.Totals.{Totals}
 

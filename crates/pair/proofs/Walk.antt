@@ -9,7 +9,7 @@ use Rattle.laws.specs.Signed.{apart}
 use Rattle.laws.proofs.Squares.{squares}
 use Rattle.laws.proofs.Sums.{sum-none, sum-more}
 use Rattle.window.specs.View.{seenAt, one, seen}
-use Rattle.pair.specs.Sums.{totalsOf}
+use Rattle.pair.specs.Walk.{totalsOf}
 use Rattle.window.proofs.Views.{seen-is, one-is, seen-le}
 
 -- the sums n, a, b and q after i sites

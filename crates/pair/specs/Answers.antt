@@ -12,13 +12,13 @@ use Rattle.pair.specs.declared.Noise.{Noise}
 use Rattle.pair.specs.declared.Noise.the-variants as noise
 
 -- ---- the variance call: P, Q and P/Q
-abbrev pub varianceFrom : Verdict → Figures → Variance
-varianceFrom verdict.Clear f = variance.Figures (f .p) (f .q) (f .variance)
-varianceFrom (verdict.Refused r) f = variance.Refused r
+abbrev pub varianceAnswered : Verdict → Figures → Variance
+varianceAnswered verdict.Clear f = variance.Figures (f .p) (f .q) (f .variance)
+varianceAnswered (verdict.Refused r) f = variance.Refused r
 
 unfoldable pub varianceAnswer : ℕ → ℕ → ℕ → List ℕ → List ℕ → List ℕ → Variance
 varianceAnswer w h full mask first second =
-    varianceFrom (pairVerdict w h full mask first second) (figuresOf (pairSpread w h mask first second))
+    varianceAnswered (pairVerdict w h full mask first second) (figuresOf (pairSpread w h mask first second))
 
 pub record VariancePaper : Type 0 where
   pub number : ℕ
@@ -47,13 +47,13 @@ variancePaper w h full mask first second =
     }
 
 -- ---- the noise call: the figure in grey levels, with r and n beside it
-abbrev pub noiseFrom : Verdict → Figures → Noise
-noiseFrom verdict.Clear f = noise.Figure (f .noise) (f .r) (f .n)
-noiseFrom (verdict.Refused r) f = noise.Refused r
+abbrev pub noiseAnswered : Verdict → Figures → Noise
+noiseAnswered verdict.Clear f = noise.Figure (f .noise) (f .r) (f .n)
+noiseAnswered (verdict.Refused r) f = noise.Refused r
 
 unfoldable pub noiseAnswer : ℕ → ℕ → ℕ → List ℕ → List ℕ → List ℕ → Noise
 noiseAnswer w h full mask first second =
-    noiseFrom (pairVerdict w h full mask first second) (figuresOf (pairSpread w h mask first second))
+    noiseAnswered (pairVerdict w h full mask first second) (figuresOf (pairSpread w h mask first second))
 
 pub record NoisePaper : Type 0 where
   pub number : ℕ

@@ -1,3 +1,3 @@
-pub mod Sums
+pub mod Walk
 pub mod Pair
 pub mod Answers

@@ -14,10 +14,7 @@ use Rattle.window.specs.View.{one, seen}
 use Rattle.window.specs.Verdict.{_⨟_, refuseIf}
 use Rattle.window.specs.Judge.{shapeOf, otherThan, codesOf, samplesOf}
 use Rattle.window.specs.declared.Verdict.{Verdict}
-use Rattle.window.specs.declared.Verdict.the-variants as verdict
 use Rattle.pair.specs.declared.Spread.{Spread}
-use Rattle.pair.specs.declared.Measurement.{Measurement}
-use Rattle.pair.specs.declared.Measurement.the-variants as taken
 
 -- d: second frame minus first at a surveyed site; at any other, both are seen as 0
 abbrev pub difference : (ℕ → ℕ) → (ℕ → ℕ) → ℕ → ℤ
@@ -56,8 +53,8 @@ figuresOf s = record {
 }
 
 -- the refusals of both calls in their order: those of the window and of what is lent, the first frame's sites before the second's
-unfoldable pub framesOf : ℕ → ℕ → ℕ → List ℕ → List ℕ → List ℕ → Verdict
-framesOf w h full mask first second =
+unfoldable pub framesVerdict : ℕ → ℕ → ℕ → List ℕ → List ℕ → List ℕ → Verdict
+framesVerdict w h full mask first second =
     shapeOf w h full
     ⨟ refuseIf 4 0 (otherThan (sitesOf w h) (length mask))
     ⨟ refuseIf 4 0 (otherThan (sitesOf w h) (length first))
@@ -69,11 +66,6 @@ framesOf w h full mask first second =
 -- then fewer than 2 surveyed sites, and P of 2^53 or more
 unfoldable pub pairVerdict : ℕ → ℕ → ℕ → List ℕ → List ℕ → List ℕ → Verdict
 pairVerdict w h full mask first second =
-    framesOf w h full mask first second
+    framesVerdict w h full mask first second
     ⨟ refuseIf 7 0 (ltb (pairSpread w h mask first second .n) 2)
     ⨟ refuseIf 14 0 (leb (2 ^ 53) (pairSpread w h mask first second .p))
-
--- n and P, or the refusal
-abbrev pub measurement : Verdict → Spread → Measurement
-measurement verdict.Clear s = taken.Taken s
-measurement (verdict.Refused r) s = taken.Refused r

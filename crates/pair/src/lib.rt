@@ -4,8 +4,8 @@ ghost use Prim.Native.Nat.{_*_, _≤_};
 ghost use lib.ListN.{length};
 ghost use Rattle.laws.specs.Signed.{apart};
 ghost use Rattle.window.specs.View.{one, seen};
-ghost use Rattle.pair.specs.Sums.{totalsOf};
-ghost use Rattle.pair.specs.Pair.{spreadOf, pairSpread, framesOf, pairVerdict, measurement};
+ghost use Rattle.pair.specs.Walk.{totalsOf, measurement};
+ghost use Rattle.pair.specs.Pair.{spreadOf, pairSpread, framesVerdict, pairVerdict};
 ghost use Rattle.pair.specs.Answers.{varianceAnswer, variancePaperOf, variancePaper, noiseAnswer, noisePaperOf, noisePaper};
 use window::Refusal;
 use window::Verdict;
@@ -50,7 +50,7 @@ fn judge(
     first: &[u16],
     second: &[u16],
 ) -> Verdict
-    ensures { λ r. ⌜ r ≡ framesOf width height «full_scale» (now (mask .entry)) (now (first .entry)) (now (second .entry)) ⌝ }
+    ensures { λ r. ⌜ r ≡ framesVerdict width height «full_scale» (now (mask .entry)) (now (first .entry)) (now (second .entry)) ⌝ }
 {
     let needed = window::sites(width, height);
     let shape = window::shape(width, height, full_scale);

@@ -1,5 +1,5 @@
 -- Document 01, "RAW10": packed samples, over the width. A group is `per` samples in `per` + 1 bytes: the upper eight bits of each,
--- then one byte with the `low` lower bits of all, the first sample's lowest. RAW10 has low 2 and per 4.
+-- then one byte with the `low` lower bits of all, the first sample's lowest.
 use Prim.Native.Nat.{ℕ, _+_, _*_, _/_, _%_, _^_}
 use mathlib.Core.List.{List}
 use lib.ListN.{getD}
@@ -17,3 +17,10 @@ sampleAt low per bytes i =
 -- the bytes of n samples
 abbrev pub packedLength : ℕ → ℕ → ℕ
 packedLength per n = n * (per + 1) / per
+
+-- RAW10: two lower bits of each, four samples in five bytes
+abbrev pub sample10 : List ℕ → ℕ → ℕ
+sample10 bytes i = sampleAt 2 4 bytes i
+
+abbrev pub length10 : ℕ → ℕ
+length10 n = packedLength 4 n

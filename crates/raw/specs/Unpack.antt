@@ -9,7 +9,7 @@ use Rattle.window.specs.Judge.{otherThan}
 use Rattle.window.specs.declared.Refusal.{Refusal}
 use Rattle.window.specs.declared.Verdict.{Verdict}
 use Rattle.window.specs.declared.Verdict.the-variants as verdict
-use Rattle.raw.specs.Packed.{sampleAt, packedLength}
+use Rattle.raw.specs.Packed.{sample10, length10}
 use Rattle.raw.specs.declared.Unpacked.{Unpacked}
 use Rattle.raw.specs.declared.Unpacked.the-variants.{Done, Refused}
 
@@ -17,7 +17,7 @@ use Rattle.raw.specs.declared.Unpacked.the-variants.{Done, Refused}
 unfoldable pub unpackVerdict : ℕ → ℕ → ℕ → ℕ → Verdict
 unpackVerdict w h bytes out =
     refuseIf 1 0 (badSides w h)
-    ⨟ refuseIf 4 0 (otherThan (packedLength 4 (sitesOf w h)) bytes)
+    ⨟ refuseIf 4 0 (otherThan (length10 (sitesOf w h)) bytes)
     ⨟ refuseIf 4 0 (otherThan (sitesOf w h) out)
 
 abbrev pub answered : Verdict → Unpacked
@@ -39,4 +39,4 @@ unpackPaper w h bytes out = refusal (numberOf (unpackVerdict w h bytes out)) (pl
 -- the buffer `out` afterwards: every sample, or all as it was
 unfoldable pub unpackBuffer : ℕ → ℕ → List ℕ → List ℕ → List ℕ
 unpackBuffer w h bytes out =
-    ifClear (unpackVerdict w h (length bytes) (length out)) (tabulate (length out) (sampleAt 2 4 bytes)) out
+    ifClear (unpackVerdict w h (length bytes) (length out)) (tabulate (length out) (sample10 bytes)) out

@@ -17,7 +17,8 @@ use Rattle.window.specs.declared.Verdict.{Verdict}
 use Rattle.window.specs.declared.Verdict.the-variants as verdict
 use Rattle.window.proofs.Views.{seen-is, seen-in, seen-out}
 use Rattle.window.proofs.Chains.{seen-whole}
-use Rattle.sites.specs.Near.{nearSum, counted}
+use Rattle.sites.specs.Near.{nearSum}
+use Rattle.sites.specs.Paper.{paper}
 use Rattle.sites.specs.Find.{defaultThreshold, usedThreshold, far, foundAt, markedAt, foundCount, findVerdict, findAnswer, findPaper, findMask}
 use Rattle.sites.specs.declared.Defects.the-variants.{Found, Refused}
 
@@ -79,7 +80,7 @@ used-few t used e low = rw e (by (eqb t 0))
 module _ (w h full t : ℕ) (mask frame out : List ℕ) where
   pub find-refused : (r : Refusal) → findVerdict w h full t mask frame (length out) ≡ verdict.Refused r
       → (Refused r ≡ findAnswer w h full t mask frame (length out))
-      × ((counted (r .number) (r .place) 0 ≡ findPaper w h full t mask frame (length out)) × (out ≡ findMask w h full t mask frame out))
+      × ((paper (r .number) (r .place) 0 ≡ findPaper w h full t mask frame (length out)) × (out ≡ findMask w h full t mask frame out))
   unfolding findAnswer findPaper findMask
   find-refused r e = rw e (refl, (refl, refl))
 
@@ -87,6 +88,6 @@ module _ (w h full t : ℕ) (mask frame out : List ℕ) where
       → count ≡ foundCount w h used mask (seen mask frame) → left ≡ tabulate (sitesOf w h) (markedAt w h used mask (seen mask frame))
       → findVerdict w h full t mask frame (length out) ≡ verdict.Clear
       → (Found count ≡ findAnswer w h full t mask frame (length out))
-      × ((counted 0 0 count ≡ findPaper w h full t mask frame (length out)) × (left ≡ findMask w h full t mask frame out))
+      × ((paper 0 0 count ≡ findPaper w h full t mask frame (length out)) × (left ≡ findMask w h full t mask frame out))
   unfolding findAnswer findPaper findMask
   find-done used count left u n m e = rw (e, n, m, u) (refl, (refl, refl))

@@ -24,7 +24,7 @@ use Rattle.sites.specs.declared.Repaired.the-variants.{Filled}
 use Rattle.sites.proofs.Nears.{Near, near-same, near-most, near-least}
 use Rattle.sites.proofs.Accepts.{Accepted, repair-tests, repair-table, repair-accepted, repair-clear}
 use Rattle.sites.proofs.Repairs.{fillable, filled-new, same-seen, not-again, at-least, at-most, filled-some, same-filled, same-code, same-sample, mean-most, mean-least, not-defect, kept-code, kept-sample, new-sample}
-use Rattle.sites.proofs.Turns.{OnlyTurned, turnedCount, tied, only-turned, kept, count-tied}
+use Rattle.sites.proofs.Turns.{OnlyTurned, turnedCount, tied, only-turned, count-tied}
 use Rattle.sites.proofs.Flips.{flip, flipped, flip-count, flip-table, code-flip, sample-flip, ones-flip, view-flip, accepted-flip}
 
 module _ (w h full : ℕ) (mask frame outFrame outMask : List ℕ) where

@@ -18,7 +18,8 @@ use Rattle.window.specs.declared.Verdict.{Verdict}
 use Rattle.window.specs.declared.Verdict.the-variants as verdict
 use Rattle.window.proofs.Views.{seen-most, seen-counted}
 use Rattle.window.proofs.Chains.{seen-whole}
-use Rattle.sites.specs.Near.{nearSum, counted}
+use Rattle.sites.specs.Near.{nearSum}
+use Rattle.sites.specs.Paper.{paper}
 use Rattle.sites.specs.Repair.{meanOf, filledAt, sampleAfter, codeAfter, filledCount, repairVerdict, repairAnswer, repairPaper, repairFrame, repairMask}
 use Rattle.sites.specs.declared.Repaired.the-variants.{Filled, Refused}
 use Rattle.sites.proofs.Turns.{after, decided}
@@ -156,7 +157,7 @@ repair-told w h full mask frame outFrame outMask =
 module _ (w h full : ℕ) (mask frame outFrame outMask : List ℕ) where
   pub repair-refused : (r : Refusal) → repairVerdict w h full mask frame (length outFrame) (length outMask) ≡ verdict.Refused r
       → (Refused r ≡ repairAnswer w h full mask frame (length outFrame) (length outMask))
-      × ((counted (r .number) (r .place) 0 ≡ repairPaper w h full mask frame (length outFrame) (length outMask))
+      × ((paper (r .number) (r .place) 0 ≡ repairPaper w h full mask frame (length outFrame) (length outMask))
       × ((outFrame ≡ repairFrame w h full mask frame outFrame (length outMask))
       × (outMask ≡ repairMask w h full mask frame (length outFrame) outMask)))
   unfolding repairAnswer repairPaper repairFrame repairMask
@@ -167,7 +168,7 @@ module _ (w h full : ℕ) (mask frame outFrame outMask : List ℕ) where
       → samples ≡ tabulate (sitesOf w h) (sampleAfter w h mask (seen mask frame) frame) → codes ≡ tabulate (sitesOf w h) (codeAfter w h mask)
       → repairVerdict w h full mask frame (length outFrame) (length outMask) ≡ verdict.Clear
       → (Filled count ≡ repairAnswer w h full mask frame (length outFrame) (length outMask))
-      × ((counted 0 0 count ≡ repairPaper w h full mask frame (length outFrame) (length outMask))
+      × ((paper 0 0 count ≡ repairPaper w h full mask frame (length outFrame) (length outMask))
       × ((samples ≡ repairFrame w h full mask frame outFrame (length outMask))
       × (codes ≡ repairMask w h full mask frame (length outFrame) outMask)))
   unfolding repairAnswer repairPaper repairFrame repairMask

@@ -8,12 +8,13 @@ use Rattle.laws.specs.Signed.{apart}
 use Rattle.laws.specs.Sum.{sumTo}
 use Rattle.laws.specs.Table.{tabulate}
 use Rattle.window.specs.Shape.{sitesOf}
-use Rattle.window.specs.View.{seenAt, seen, one}
+use Rattle.window.specs.View.{defect, seenAt, seen, one}
 use Rattle.window.specs.Verdict.{_⨟_, refuseIf, numberOf, placeOf, ifClear}
 use Rattle.window.specs.Judge.{shapeOf, otherThan, codesOf, samplesOf}
 use Rattle.window.specs.declared.Verdict.{Verdict}
 use Rattle.window.specs.declared.Verdict.the-variants as verdict
-use Rattle.sites.specs.Near.{nearSum, Counted, counted}
+use Rattle.sites.specs.Near.{nearSum}
+use Rattle.sites.specs.Paper.{Paper, paper}
 use Rattle.sites.specs.declared.Defects.{Defects}
 use Rattle.sites.specs.declared.Defects.the-variants.{Found, Refused}
 
@@ -36,7 +37,7 @@ foundAt w h t mask view i =
 
 -- "newly found become 2, all others are copied"
 abbrev pub marked : ℕ → ℕ → ℕ
-marked code found = cond (eqb found 0) code 2
+marked code found = cond (eqb found 0) code defect
 
 unfoldable pub markedAt : ℕ → ℕ → ℕ → List ℕ → (ℕ → ℕ) → ℕ → ℕ
 markedAt w h t mask view i = marked (getD mask i 0) (foundAt w h t mask view i)
@@ -56,22 +57,22 @@ findVerdict w h full t mask frame out =
     ⨟ codesOf (sitesOf w h) mask
     ⨟ samplesOf (sitesOf w h) full (seen mask frame)
 
-abbrev pub foundOr : Verdict → ℕ → Defects
-foundOr verdict.Clear count = Found count
-foundOr (verdict.Refused r) count = Refused r
+abbrev pub findAnswered : Verdict → ℕ → Defects
+findAnswered verdict.Clear count = Found count
+findAnswered (verdict.Refused r) count = Refused r
 
 unfoldable pub findAnswer : ℕ → ℕ → ℕ → ℕ → List ℕ → List ℕ → ℕ → Defects
-findAnswer w h full t mask frame out = foundOr (findVerdict w h full t mask frame out) (foundCount w h (usedThreshold t) mask (seen mask frame))
+findAnswer w h full t mask frame out = findAnswered (findVerdict w h full t mask frame out) (foundCount w h (usedThreshold t) mask (seen mask frame))
 
 -- the paper's numbers of an answer
-abbrev pub foundPaperOf : Defects → Counted
-foundPaperOf (Found count) = counted 0 0 count
-foundPaperOf (Refused r) = counted (r .number) (r .place) 0
+abbrev pub foundPaperOf : Defects → Paper
+foundPaperOf (Found count) = paper 0 0 count
+foundPaperOf (Refused r) = paper (r .number) (r .place) 0
 
 -- the paper's numbers for all inputs
-unfoldable pub findPaper : ℕ → ℕ → ℕ → ℕ → List ℕ → List ℕ → ℕ → Counted
+unfoldable pub findPaper : ℕ → ℕ → ℕ → ℕ → List ℕ → List ℕ → ℕ → Paper
 findPaper w h full t mask frame out =
-    counted
+    paper
     (numberOf (findVerdict w h full t mask frame out))
     (placeOf (findVerdict w h full t mask frame out))
     (ifClear (findVerdict w h full t mask frame out) (foundCount w h (usedThreshold t) mask (seen mask frame)) 0)

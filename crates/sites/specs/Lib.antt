@@ -1,3 +1,4 @@
 pub mod Near
+pub mod Paper
 pub mod Find
 pub mod Repair

@@ -15,12 +15,3 @@ around reach w i = record {
 -- a view summed over these sites of its plane, cut off at the plane's edges
 unfoldable pub nearSum : ℕ → ℕ → ℕ → (ℕ → ℕ) → ℕ → ℕ
 nearSum reach w h view i = boxSum w h (planeOf w i) (around reach w i) view
-
--- the paper's numbers of a call that counts sites
-pub record Counted : Type 0 where
-  pub number : ℕ
-  pub place : ℕ
-  pub count : ℕ
-
-abbrev pub counted : ℕ → ℕ → ℕ → Counted
-counted number place count = record { number = number; place = place; count = count }

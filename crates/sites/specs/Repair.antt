@@ -7,12 +7,13 @@ use lib.ListN.{length, getD}
 use Rattle.laws.specs.Sum.{sumTo}
 use Rattle.laws.specs.Table.{tabulate}
 use Rattle.window.specs.Shape.{sitesOf}
-use Rattle.window.specs.View.{one, seen}
+use Rattle.window.specs.View.{defect, filled, one, seen}
 use Rattle.window.specs.Verdict.{_⨟_, refuseIf, numberOf, placeOf, ifClear}
 use Rattle.window.specs.Judge.{shapeOf, otherThan, codesOf, samplesOf}
 use Rattle.window.specs.declared.Verdict.{Verdict}
 use Rattle.window.specs.declared.Verdict.the-variants as verdict
-use Rattle.sites.specs.Near.{nearSum, Counted, counted}
+use Rattle.sites.specs.Near.{nearSum}
+use Rattle.sites.specs.Paper.{Paper, paper}
 use Rattle.sites.specs.declared.Repaired.{Repaired}
 use Rattle.sites.specs.declared.Repaired.the-variants.{Filled, Refused}
 
@@ -26,7 +27,7 @@ meanOf s c = (2 * s + c) / (2 * c)
 
 -- 1 at a site of code 2 with at least one surveyed neighbour, 0 at any other
 unfoldable pub filledAt : ℕ → ℕ → List ℕ → ℕ → ℕ
-filledAt w h mask i = cond (eqb (getD mask i 0) 2) (cond (ltb 0 (neighbours w h mask i)) 1 0) 0
+filledAt w h mask i = cond (eqb (getD mask i 0) defect) (cond (ltb 0 (neighbours w h mask i)) 1 0) 0
 
 -- a filled site gets the mean of its surveyed neighbours; any other keeps its sample
 unfoldable pub sampleAfter : ℕ → ℕ → List ℕ → (ℕ → ℕ) → List ℕ → ℕ → ℕ
@@ -36,7 +37,7 @@ sampleAfter w h mask view frame i =
 
 -- and code 3; any other keeps its code
 unfoldable pub codeAfter : ℕ → ℕ → List ℕ → ℕ → ℕ
-codeAfter w h mask i = cond (eqb (filledAt w h mask i) 0) (getD mask i 0) 3
+codeAfter w h mask i = cond (eqb (filledAt w h mask i) 0) (getD mask i 0) filled
 
 -- how many are filled
 unfoldable pub filledCount : ℕ → ℕ → List ℕ → ℕ
@@ -53,22 +54,22 @@ repairVerdict w h full mask frame outFrame outMask =
     ⨟ codesOf (sitesOf w h) mask
     ⨟ samplesOf (sitesOf w h) full (seen mask frame)
 
-abbrev pub filledOr : Verdict → ℕ → Repaired
-filledOr verdict.Clear count = Filled count
-filledOr (verdict.Refused r) count = Refused r
+abbrev pub repairAnswered : Verdict → ℕ → Repaired
+repairAnswered verdict.Clear count = Filled count
+repairAnswered (verdict.Refused r) count = Refused r
 
 unfoldable pub repairAnswer : ℕ → ℕ → ℕ → List ℕ → List ℕ → ℕ → ℕ → Repaired
-repairAnswer w h full mask frame outFrame outMask = filledOr (repairVerdict w h full mask frame outFrame outMask) (filledCount w h mask)
+repairAnswer w h full mask frame outFrame outMask = repairAnswered (repairVerdict w h full mask frame outFrame outMask) (filledCount w h mask)
 
 -- the paper's numbers of an answer
-abbrev pub filledPaperOf : Repaired → Counted
-filledPaperOf (Filled count) = counted 0 0 count
-filledPaperOf (Refused r) = counted (r .number) (r .place) 0
+abbrev pub filledPaperOf : Repaired → Paper
+filledPaperOf (Filled count) = paper 0 0 count
+filledPaperOf (Refused r) = paper (r .number) (r .place) 0
 
 -- the paper's numbers for all inputs
-unfoldable pub repairPaper : ℕ → ℕ → ℕ → List ℕ → List ℕ → ℕ → ℕ → Counted
+unfoldable pub repairPaper : ℕ → ℕ → ℕ → List ℕ → List ℕ → ℕ → ℕ → Paper
 repairPaper w h full mask frame outFrame outMask =
-    counted
+    paper
     (numberOf (repairVerdict w h full mask frame outFrame outMask))
     (placeOf (repairVerdict w h full mask frame outFrame outMask))
     (ifClear (repairVerdict w h full mask frame outFrame outMask) (filledCount w h mask) 0)

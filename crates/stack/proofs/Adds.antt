@@ -18,7 +18,8 @@ use Rattle.window.proofs.Sides.{scale}
 use Rattle.window.proofs.Verdicts.{Test, Tabled, test, testFirst, tabled, passed-head, passed-tail, then-same, unless}
 use Rattle.window.proofs.Views.{seen-is, seen-out}
 use Rattle.window.proofs.Chains.{shape-then, shape-clear, same-length, in-range, measured, codes-whole, samples-whole}
-use Rattle.stack.specs.Sums.{impossibleIn, squared, added, readable}
+use Rattle.stack.specs.Sums.{impossibleIn, squared, added}
+use Rattle.stack.specs.Walk.{readable}
 use Rattle.stack.specs.Add.{addVerdict, addAnswer, addPaperOf, addPaper, addSums, addSquares}
 use Rattle.stack.specs.declared.Added.the-variants.{Frames, Refused}
 use Rattle.stack.proofs.Sites.{Possible, readable-whole, all-possible}

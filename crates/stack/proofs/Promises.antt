@@ -30,7 +30,6 @@ use Rattle.stack.specs.Sums.{impossibleIn, squared, added, spread}
 use Rattle.stack.specs.Add.{addVerdict, addAnswer, addPaper, addSums, addSquares}
 use Rattle.stack.specs.Variance.{tooFew, varianceVerdict, varianceAnswer, variancePaper}
 use Rattle.stack.specs.Run.{Stack, offered, run, runVerdict, overFrames}
-use Rattle.stack.specs.declared.Variance.{Variance}
 use Rattle.stack.specs.declared.Variance.the-variants.{Figures}
 use Rattle.stack.proofs.Sites.{all-possible}
 use Rattle.stack.proofs.Turns.{added-same, added-keeps}

@@ -13,7 +13,8 @@ use Rattle.laws.proofs.Firsts.{first-nowhere}
 use Rattle.laws.proofs.Squares.{schwarz-more}
 use Rattle.window.specs.Shape.{sitesOf}
 use Rattle.window.proofs.Sides.{sites-few}
-use Rattle.stack.specs.Sums.{impossible, impossibleAt, impossibleIn, readable}
+use Rattle.stack.specs.Sums.{impossible, impossibleAt, impossibleIn}
+use Rattle.stack.specs.Walk.{readable}
 
 pub record Readable (full k mask sums squares : ℕ) : Type 0 where
   pub scale : full ≤ 4095

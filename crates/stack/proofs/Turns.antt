@@ -18,7 +18,8 @@ use Rattle.window.specs.View.{surveyed, seenAt, seen}
 use Rattle.window.specs.Verdict.{refuseIf}
 use Rattle.window.specs.declared.Verdict.the-variants.{Clear}
 use Rattle.window.proofs.Views.{seen-is, seen-in}
-use Rattle.stack.specs.Sums.{impossible, impossibleAt, impossibleIn, added, spread, readable}
+use Rattle.stack.specs.Sums.{impossible, impossibleAt, impossibleIn, added, spread}
+use Rattle.stack.specs.Walk.{readable}
 
 -- adding: what stands at the site still is what stood there, so the sum that is stored is the one that is defined
 module _ (view : ℕ → ℕ) {d l : List ℕ} {i v : ℕ} (so-far : Filling (λ (k : ℕ). getD d k 0 + view k) d l i) (here : v ≡ view i) where

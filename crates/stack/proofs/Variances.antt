@@ -26,8 +26,9 @@ use Rattle.window.specs.declared.Verdict.the-variants as verdict
 use Rattle.window.proofs.Verdicts.{Test, Tabled, test, testFirst, tabled, passed-head, passed-tail, then-same, unless}
 use Rattle.window.proofs.Views.{surveyed-few}
 use Rattle.window.proofs.Chains.{shape-then, shape-clear, same-length, measured, codes-whole}
-use Rattle.stack.specs.Sums.{impossibleIn, spread, readable}
-use Rattle.stack.specs.Variance.{tooFew, varianceVerdict, figured, varianceAnswer, variancePaperOf, variancePaper}
+use Rattle.stack.specs.Sums.{impossibleIn, spread}
+use Rattle.stack.specs.Walk.{readable}
+use Rattle.stack.specs.Variance.{tooFew, varianceVerdict, varianceAnswered, varianceAnswer, variancePaperOf, variancePaper}
 use Rattle.stack.specs.declared.Variance.the-variants.{Figures, Refused}
 use Rattle.stack.proofs.Sites.{Possible, readable-whole, all-possible}
 
@@ -150,7 +151,7 @@ module _ (w h full k : ℕ) (mask sums squares : List ℕ) where
   unfolding varianceAnswer
   answer-is p q x = by (varianceVerdict w h full k mask sums squares)
     where
-      by : (v : Verdict) {a b : ℕ} → figured v a b ≡ Figures p q x → (v ≡ verdict.Clear) × (p ≡ a) × (q ≡ b) × (x ≡ quotient p q)
+      by : (v : Verdict) {a b : ℕ} → varianceAnswered v a b ≡ Figures p q x → (v ≡ verdict.Clear) × (p ≡ a) × (q ≡ b) × (x ≡ quotient p q)
       by verdict.Clear e = (refl, cc, cc, cc)
       by (verdict.Refused r) e = let z : _≡_ {A = ℕ} 0 1 = cc in absurd (omega arith)
 

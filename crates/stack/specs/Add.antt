@@ -27,26 +27,26 @@ addVerdict w h full k mask frame sums squares =
     ⨟ refuseIf 11 0 (impossibleIn (sitesOf w h) full k (seen mask sums) (seen mask squares))
     ⨟ refuseIf 12 0 (eqb k 100)
 
-abbrev pub counted : Verdict → ℕ → Added
-counted verdict.Clear k = Frames k
-counted (verdict.Refused r) k = Refused r
+abbrev pub addAnswered : Verdict → ℕ → Added
+addAnswered verdict.Clear k = Frames k
+addAnswered (verdict.Refused r) k = Refused r
 
 -- the answer is k + 1
 unfoldable pub addAnswer : ℕ → ℕ → ℕ → ℕ → List ℕ → List ℕ → List ℕ → List ℕ → Added
-addAnswer w h full k mask frame sums squares = counted (addVerdict w h full k mask frame sums squares) (k + 1)
+addAnswer w h full k mask frame sums squares = addAnswered (addVerdict w h full k mask frame sums squares) (k + 1)
 
 -- the paper's numbers of an answer
-pub record AddNumbers : Type 0 where
+pub record AddPaper : Type 0 where
   pub number : ℕ
   pub place : ℕ
   pub count : ℕ
 
-abbrev pub addPaperOf : Added → AddNumbers
+abbrev pub addPaperOf : Added → AddPaper
 addPaperOf (Frames k) = record { number = 0; place = 0; count = k }
 addPaperOf (Refused r) = record { number = r .number; place = r .place; count = 0 }
 
 -- the paper's numbers for all inputs
-unfoldable pub addPaper : ℕ → ℕ → ℕ → ℕ → List ℕ → List ℕ → List ℕ → List ℕ → AddNumbers
+unfoldable pub addPaper : ℕ → ℕ → ℕ → ℕ → List ℕ → List ℕ → List ℕ → List ℕ → AddPaper
 addPaper w h full k mask frame sums squares = record {
   number = numberOf (addVerdict w h full k mask frame sums squares);
   place = placeOf (addVerdict w h full k mask frame sums squares);

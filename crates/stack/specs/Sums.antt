@@ -1,8 +1,8 @@
 -- Document 01, "Stack": the sums s and the sums of squares q that the caller lends, one of each a site, and their frame count k.
 use Prim.Native.Nat.{ℕ, _+_, _-_, _*_}
-use mathlib.Core.Bool.{Bool, _||_, _&&_}
+use mathlib.Core.Bool.{Bool, _||_}
 use mathlib.Core.List.{List}
-use lib.Dec.{eqb, ltb, leb}
+use lib.Dec.{ltb}
 use lib.ListN.{length, getD}
 use Rattle.laws.specs.First.{someTo}
 use Rattle.laws.specs.Sum.{sumTo}
@@ -31,8 +31,3 @@ added view sums = tabulate (length sums) (λ (i : ℕ). getD sums i 0 + view i)
 -- the sum of k × q − s² over n sites: 11 has made sure that no s² is above its k × q
 unfoldable pub spread : ℕ → ℕ → (ℕ → ℕ) → (ℕ → ℕ) → ℕ
 spread n k s q = sumTo n (λ (i : ℕ). k * q i - s i * s i)
-
--- sums that can be walked with a mask of this length, and whose products fit
-unfoldable pub readable : ℕ → ℕ → ℕ → ℕ → ℕ → Bool
-readable full k mask sums squares =
-    leb full 4095 && (leb k 100 && (leb mask 16384 && (eqb sums mask && eqb squares mask)))

@@ -34,33 +34,33 @@ varianceVerdict w h full k mask sums squares =
     ⨟ refuseIf 11 0 (impossibleIn (sitesOf w h) full k (seen mask sums) (seen mask squares))
     ⨟ refuseIf 14 0 (leb (2 ^ 53) (spread (sitesOf w h) k (seen mask sums) (seen mask squares)))
 
-abbrev pub figured : Verdict → ℕ → ℕ → Variance
-figured verdict.Clear numerator denominator = Figures numerator denominator (quotient numerator denominator)
-figured (verdict.Refused r) numerator denominator = Refused r
+abbrev pub varianceAnswered : Verdict → ℕ → ℕ → Variance
+varianceAnswered verdict.Clear numerator denominator = Figures numerator denominator (quotient numerator denominator)
+varianceAnswered (verdict.Refused r) numerator denominator = Refused r
 
 -- the sum of k × q − s² over n surveyed sites, over n × k², and their quotient, rounded once
 unfoldable pub varianceAnswer : ℕ → ℕ → ℕ → ℕ → List ℕ → List ℕ → List ℕ → Variance
 varianceAnswer w h full k mask sums squares =
-    figured (varianceVerdict w h full k mask sums squares)
+    varianceAnswered (varianceVerdict w h full k mask sums squares)
     (spread (sitesOf w h) k (seen mask sums) (seen mask squares))
     (sumTo (sitesOf w h) (one mask) * (k * k))
 
 -- the paper's numbers of an answer
-pub record VarianceNumbers : Type 0 where
+pub record VariancePaper : Type 0 where
   pub number : ℕ
   pub place : ℕ
   pub numerator : ℕ
   pub denominator : ℕ
   pub variance : Float
 
-abbrev pub variancePaperOf : Variance → VarianceNumbers
+abbrev pub variancePaperOf : Variance → VariancePaper
 variancePaperOf (Figures numerator denominator variance) =
     record { number = 0; place = 0; numerator = numerator; denominator = denominator; variance = variance }
 variancePaperOf (Refused r) =
     record { number = r .number; place = r .place; numerator = 0; denominator = 0; variance = ofBits binary64 0 }
 
 -- the paper's numbers for all inputs
-unfoldable pub variancePaper : ℕ → ℕ → ℕ → ℕ → List ℕ → List ℕ → List ℕ → VarianceNumbers
+unfoldable pub variancePaper : ℕ → ℕ → ℕ → ℕ → List ℕ → List ℕ → List ℕ → VariancePaper
 variancePaper w h full k mask sums squares =
     let v = varianceVerdict w h full k mask sums squares in
     let numerator = spread (sitesOf w h) k (seen mask sums) (seen mask squares) in

@@ -23,7 +23,8 @@ use Rattle.dark.specs.Dark.{darkVerdict, darkAnswer, darkPaper}
 use Rattle.dark.specs.declared.Dark.{Dark}
 use Rattle.dark.specs.declared.Dark.the-variants as dark
 use Rattle.stream.specs.Stream.{widthOf, heightOf, fullOf, blackOf, maskOf, firstOf, secondOf, streamVerdict}
-use Rattle.stream.specs.Job.{jobVerdict, jobAnswer, paperOf, jobPaper, together, directly}
+use Rattle.stream.specs.Job.{jobVerdict, jobAnswer, paperOf, jobPaper}
+use Rattle.stream.specs.Walk.{together, directly}
 use Rattle.stream.specs.declared.Answer.the-variants.{Figures, Refused}
 
 -- ---- what three answers make

@@ -22,8 +22,8 @@ use Rattle.dark.specs.Dark.{darkVerdict, darkPaper}
 use Rattle.dark.proofs.Promises as dark
 use Rattle.stream.specs.Fields.{bodyAt}
 use Rattle.stream.specs.Stream.{widthOf, heightOf, fullOf, blackOf, sitesIn, packedIn, firstField, secondField, unpacked, maskOf, firstOf, secondOf, streamVerdict}
-use Rattle.stream.specs.Job.{jobVerdict, varianceIn, noiseIn, darkIn, answered, jobAnswer, jobPaper, directly}
-use Rattle.stream.specs.declared.Answer.{Answer}
+use Rattle.stream.specs.Job.{jobVerdict, varianceIn, noiseIn, darkIn, answered, jobAnswer, jobPaper}
+use Rattle.stream.specs.Walk.{directly}
 use Rattle.stream.specs.declared.Answer.the-variants.{Figures, Refused}
 use Rattle.stream.proofs.Streams.{Faultless, faultless}
 use Rattle.stream.proofs.Frames.{left, unpacks}

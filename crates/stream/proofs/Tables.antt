@@ -16,7 +16,7 @@ use Rattle.window.specs.declared.Verdict.{Verdict}
 use Rattle.window.specs.declared.Verdict.the-variants.{Clear}
 use Rattle.window.proofs.Chains.{right-length}
 use Rattle.window.proofs.Verdicts.{Test, Tabled, test, testFirst, inTurn, tabled, tabled-none, tabled-then, skipped, then-assoc, then-same, then-clear, then-end, unless}
-use Rattle.pair.specs.Pair.{spreadOf, pairSpread, framesOf, pairVerdict}
+use Rattle.pair.specs.Pair.{spreadOf, pairSpread, framesVerdict, pairVerdict}
 use Rattle.pair.proofs.Promises.{spare}
 use Rattle.dark.specs.Dark.{darkVerdict}
 use Rattle.stream.specs.Fields.{Field, past, wordAt, fieldAt, fieldsAt, pastAll}
@@ -100,7 +100,7 @@ module _ (w h full black : ℕ) (mask first second : List ℕ) where
         ⨟ samplesOf (sitesOf w h) full (seen mask first)
         ⨟ samplesOf (sitesOf w h) full (seen mask second)
         ⨟ refuseIf 7 0 (ltb (pairSpread w h mask first second .n) 2)
-    unfolding framesOf shapeOf
+    unfolding framesVerdict shapeOf
     pair-left =
         spare w h full mask first second
         ∙ simp (then-assoc, legal, long (length mask) m, long (length first) f, long (length second) g)

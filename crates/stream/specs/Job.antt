@@ -6,14 +6,8 @@ use Rattle.window.specs.Verdict.{_⨟_, numberOf, placeOf, ifClear}
 use Rattle.window.specs.declared.Verdict.{Verdict}
 use Rattle.window.specs.declared.Verdict.the-variants as verdict
 use Rattle.pair.specs.Pair.{pairVerdict}
-use Rattle.pair.specs.Answers.{VariancePaper, varianceAnswer, variancePaper, NoisePaper, noiseAnswer, noisePaper}
-use Rattle.pair.specs.declared.Variance.{Variance}
-use Rattle.pair.specs.declared.Variance.the-variants as variance
-use Rattle.pair.specs.declared.Noise.{Noise}
-use Rattle.pair.specs.declared.Noise.the-variants as noise
-use Rattle.dark.specs.Dark.{darkVerdict, Paper, darkAnswer, darkPaper}
-use Rattle.dark.specs.declared.Dark.{Dark}
-use Rattle.dark.specs.declared.Dark.the-variants as dark
+use Rattle.pair.specs.Answers.{VariancePaper, variancePaper, NoisePaper, noisePaper}
+use Rattle.dark.specs.Dark.{darkVerdict, Paper, darkPaper}
 use Rattle.stream.specs.Stream.{widthOf, heightOf, fullOf, blackOf, maskOf, firstOf, secondOf, streamVerdict}
 use Rattle.stream.specs.declared.Answer.{Answer}
 use Rattle.stream.specs.declared.Answer.the-variants.{Figures, Refused}
@@ -76,15 +70,3 @@ jobPaper s =
       dark = ifClear v (darkIn s .numerator) (pos 0);
       darkOver = ifClear v (darkIn s .denominator) 0;
     }
-
--- three answers as one: the first refusal, or what is printed
-abbrev pub together : Variance → Noise → Dark → Answer
-together (variance.Refused r) x d = Refused r
-together (variance.Figures p q v) (noise.Refused r) d = Refused r
-together (variance.Figures p q v) (noise.Figure x r n) (dark.Refused s) = Refused s
-together (variance.Figures p q v) (noise.Figure x r n) (dark.Level a m) = Figures n p q r (64 * n) a m
-
--- the library's calls on two frames, as one answer
-abbrev pub directly : ℕ → ℕ → ℕ → ℕ → List ℕ → List ℕ → List ℕ → Answer
-directly w h full black mask first second =
-    together (varianceAnswer w h full mask first second) (noiseAnswer w h full mask first second) (darkAnswer w h full black mask first)

@@ -1,3 +1,4 @@
 pub mod Fields
 pub mod Stream
 pub mod Job
+pub mod Walk

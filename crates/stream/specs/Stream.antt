@@ -7,7 +7,7 @@ use Rattle.laws.specs.Table.{tabulate}
 use Rattle.window.specs.Shape.{badSides, sitesOf}
 use Rattle.window.specs.Verdict.{_⨟_, refuseIf}
 use Rattle.window.specs.declared.Verdict.{Verdict}
-use Rattle.raw.specs.Packed.{sampleAt, packedLength}
+use Rattle.raw.specs.Packed.{sample10, length10}
 use Rattle.stream.specs.Fields.{Field, field, wordAt, bodyAt, past, fieldsAt, pastAll, extraAt}
 
 -- 1 width, 2 height: two bytes each
@@ -17,7 +17,7 @@ sideFields = field 1 2 ∷ field 2 2 ∷ []
 -- and for a window of n sites 3 full scale, 4 black level: two bytes each; 5 mask; 6 and 7 the frames in RAW10; 0 empty
 abbrev pub bodyFields : ℕ → List Field
 bodyFields n =
-    field 3 2 ∷ field 4 2 ∷ field 5 n ∷ field 6 (packedLength 4 n) ∷ field 7 (packedLength 4 n) ∷ field 0 0 ∷ []
+    field 3 2 ∷ field 4 2 ∷ field 5 n ∷ field 6 (length10 n) ∷ field 7 (length10 n) ∷ field 0 0 ∷ []
 
 -- a side above 64
 unfoldable pub wideSides : ℕ → ℕ → Bool
@@ -49,7 +49,7 @@ abbrev pub sitesIn : List ℕ → ℕ
 sitesIn s = sitesOf (widthOf s) (heightOf s)
 
 abbrev pub packedIn : List ℕ → ℕ
-packedIn s = packedLength 4 (sitesIn s)
+packedIn s = length10 (sitesIn s)
 
 abbrev pub maskOf : List ℕ → List ℕ
 maskOf s = bodyAt s 20 (sitesIn s)
@@ -59,11 +59,11 @@ abbrev pub firstField : ℕ → ℕ
 firstField n = 23 + n
 
 abbrev pub secondField : ℕ → ℕ
-secondField n = firstField n + 3 + packedLength 4 n
+secondField n = firstField n + 3 + length10 n
 
 -- a frame unpacked from a body in RAW10
 abbrev pub unpacked : ℕ → List ℕ → List ℕ
-unpacked n body = tabulate n (sampleAt 2 4 body)
+unpacked n body = tabulate n (sample10 body)
 
 abbrev pub firstOf : List ℕ → List ℕ
 firstOf s = unpacked (sitesIn s) (bodyAt s (firstField (sitesIn s)) (packedIn s))

@@ -13,7 +13,7 @@ unfoldable pub shapeOf : ℕ → ℕ → ℕ → Verdict
 unfolding _⨟_ refuseIf
 shapeOf w h full = refuseIf 1 0 (badSides w h) ⨟ refuseIf 2 0 (badScale full)
 
--- 4: a buffer's length is not exactly the one needed
+-- a length, or a tag, is not exactly the one needed
 abbrev pub otherThan : ℕ → ℕ → Bool
 otherThan needed long = not (eqb long needed)
 

@@ -1,13 +1,19 @@
--- Document 01, "Mask codes": a frame is read only through its mask, site by site.
+-- Document 01, "What the bench does": mask codes, and a frame read only through its mask, site by site.
 use Prim.Native.Nat.{ℕ}
 use mathlib.Core.Bool.{Bool, cond}
 use mathlib.Core.List.{List}
 use lib.Dec.{eqb, ltb}
 use lib.ListN.{getD}
 
--- code 0
+-- mask codes, one byte a site: 0 surveyed, 1 gap, 2 defect, 3 filled
 abbrev pub surveyed : ℕ → Bool
 surveyed code = eqb code 0
+
+abbrev pub defect : ℕ
+defect = 2
+
+abbrev pub filled : ℕ
+filled = 3
 
 -- a code above 3
 abbrev pub badCode : List ℕ → ℕ → Bool

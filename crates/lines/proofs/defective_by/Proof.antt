@@ -4,7 +4,7 @@ use lib.ListN.{length}
 use borrow.Author.Needs.{needs}
 use Rattle.lines.proofs.Marking.{ready, refused-is, accepted-is}
 use Rattle.lines.specs.Marks.{linesVerdict}
-use Rattle.lines.specs.Lines.{lined}
+use Rattle.lines.specs.Walk.{lined}
 use Rattle.window.specs.declared.Verdict.the-variants as verdict
 use Rattle.lines.proofs.defective_by.Statement.{statement}
 use Rattle.lines.proofs.defective_by.Tie as tie

@@ -5,7 +5,8 @@ use mathlib.Core.Bool.{Bool}
 use native.Mathlib.Nat.{mod-lt}
 use native.Mathlib.Omega.{arith}
 use borrow.Author.Count.{below-more}
-use Rattle.lines.specs.Lines.{lined, lineSum}
+use Rattle.lines.specs.Lines.{lineSum}
+use Rattle.lines.specs.Walk.{lined}
 use Rattle.window.specs.View.{seen, one}
 use Rattle.laws.proofs.Tables.{Filling, filling-none, filling-more, filling-read}
 use Rattle.lines.proofs.gather.Statement.{statement}

@@ -1,7 +1,7 @@
 -- `line_sums` is right because a line is a box, and the buffers have the window's sites.
 use native.Mathlib.Omega.{arith}
 use borrow.Author.Needs.{needs}
-use Rattle.lines.specs.Lines.{lined}
+use Rattle.lines.specs.Walk.{lined}
 use Rattle.lines.proofs.Pools.{line-told}
 use Rattle.lines.proofs.line_sums.Statement.{statement}
 use Rattle.lines.proofs.line_sums.Tie as tie

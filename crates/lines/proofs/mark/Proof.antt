@@ -6,7 +6,8 @@ use native.Mathlib.Omega.{arith}
 use lib.ListN.{length}
 use borrow.Author.Needs.{needs}
 use Rattle.lines.proofs.Pools.{held-in, mark-at}
-use Rattle.lines.specs.Lines.{lined, markAt}
+use Rattle.lines.specs.Lines.{markAt}
+use Rattle.lines.specs.Walk.{lined}
 use Rattle.window.specs.View.{seen, one}
 use Rattle.laws.proofs.Tables.{Filling, filling-none, filling-more, filling-done}
 use Rattle.lines.proofs.mark.Statement.{statement}

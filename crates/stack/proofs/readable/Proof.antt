@@ -1,6 +1,6 @@
 -- `readable` is right because its tests are the definition's, the first that fails left at once.
 use borrow.Author.Tests.{lt-leb, le-leb, eq-eqb, ne-eqb}
-use Rattle.stack.specs.Sums.{readable}
+use Rattle.stack.specs.Walk.{readable}
 use Rattle.stack.proofs.readable.Statement.{statement}
 use Rattle.stack.proofs.readable.Tie as tie
 

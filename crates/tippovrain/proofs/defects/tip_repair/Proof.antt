@@ -1,7 +1,7 @@
 -- `tip_repair` is right because it hands out the paper's numbers of the answer, each in its place.
 use mathlib.Core.Path.{sym, ap, _∙_}
 use borrow.Author.Needs.{needs}
-use Rattle.sites.specs.Near.{Counted}
+use Rattle.sites.specs.Paper.{Paper}
 use Rattle.sites.specs.Repair.{filledPaperOf}
 use Rattle.tippovrain.proofs.defects.tip_repair.Statement.{statement}
 use Rattle.tippovrain.proofs.defects.tip_repair.Tie as tie
@@ -24,7 +24,7 @@ same-length-2 c = search needs
 returns : tie.Need-returns
 returns c = let call = c .before .before .before .before .before .before .before .repair .ensures in
     let e = sym (ap filledPaperOf (c .before .sites .given .1)) ∙ call .1 .0 in
-    (ap (λ (p : Counted). p .number) e, (ap (λ (p : Counted). p .place) e, (ap (λ (p : Counted). p .count) e, call .1 .1)))
+    (ap (λ (p : Paper). p .number) e, (ap (λ (p : Paper). p .place) e, (ap (λ (p : Paper). p .count) e, call .1 .1)))
 
 same-length-3 : tie.Need-same-length-3
 same-length-3 c = search needs
@@ -35,7 +35,7 @@ same-length-4 c = search needs
 returns-2 : tie.Need-returns-2
 returns-2 c = let call = c .before .before .before .before .before .before .before .repair .ensures in
     let e = sym (ap filledPaperOf (c .before .refusal .given .1)) ∙ call .1 .0 in
-    (ap (λ (p : Counted). p .number) e, (ap (λ (p : Counted). p .place) e, (ap (λ (p : Counted). p .count) e, call .1 .1)))
+    (ap (λ (p : Paper). p .number) e, (ap (λ (p : Paper). p .place) e, (ap (λ (p : Paper). p .count) e, call .1 .1)))
 
 pub tip-repair-spec : {M : Type 1} → statement M
 tip-repair-spec =
