@@ -1,12 +1,12 @@
 -- What a buffer's length lets be walked: the whole window, or nothing.
 use Prim.Native.Nat.{ℕ, _*_}
-use mathlib.Core.Bool.{Bool}
+use mathlib.Core.Bool.{Bool, false}
 use mathlib.Core.Logic.{⊎-elim}
 use mathlib.Core.Path.{_≡_, _∙_}
 use native.Mathlib.Omega.{arith}
 use lib.Dec.{eqb, ltb}
 use borrow.Author.Tests.{eq-eqb, ne-eqb, eqb-true, eqb-false}
-use Rattle.laws.specs.First.{firstTo}
+use Rattle.laws.specs.First.{firstTo, someTo}
 use Rattle.laws.proofs.Cases.{true-or-false}
 use Rattle.window.specs.Shape.{sitesOf}
 use Rattle.laws.proofs.Firsts.{first-none}
@@ -45,6 +45,11 @@ module _ (w h long : ℕ) where
 pub none-walked : (k n : ℕ) (test : ℕ → Bool) → n ≡ 0 → Clear ≡ refuseFirst k n test
 unfolding refuseFirst refuseIf
 none-walked k n test e = rw (e, first-none)
+
+-- nor where the test holds at none
+pub none-found : (k n m : ℕ) (test : ℕ → Bool) → m ≡ n → someTo n test ≡ false → Clear ≡ refuseFirst k m test
+unfolding refuseFirst refuseIf
+none-found k n m test p e = rw (p, e)
 
 -- what a search over the n sites found is given, however n was come by
 pub found : (k n m i at : ℕ) (test : ℕ → Bool) → i ≡ n → m ≡ n → at ≡ firstTo n test → refuseIf k at (ltb at i) ≡ refuseFirst k m test

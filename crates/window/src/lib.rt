@@ -1,8 +1,9 @@
 // What every call on a window shares: its sides and full scale, what is seen through a mask, refusals, and the four planes.
+ghost use mathlib.Core.Bool.{true, false};
 ghost use mathlib.Core.Path.{_≡_};
 ghost use Prim.Native.Nat.{ℕ, _+_, _*_, _/_, _≤_, _<_, min};
 ghost use lib.ListN.{length};
-ghost use Rattle.laws.specs.First.{firstTo};
+ghost use Rattle.laws.specs.First.{firstTo, someTo};
 ghost use Rattle.laws.specs.Sum.{sumTo, sumIn, sumBox};
 ghost use Rattle.window.specs.Shape.{badSide, badSides, badScale, badCount, sitesOf};
 ghost use Rattle.window.specs.View.{badCode, seenAt, seen, one, above};
@@ -165,6 +166,40 @@ fn first_over(width: usize, height: usize, full_scale: u64, mask: &[u8], frame: 
     site
 }
 
+// Whether some code is above 3: a walk with no way out, which takes far less time than the search for the place.
+fn some_bad_code(mask: &[u8]) -> bool
+    ensures { λ r. ⌜ r ≡ someTo (length (now (mask .entry))) (badCode (now (mask .entry))) ⌝ }
+{
+    let mut found = false;
+    for i in 0..mask.len() {
+        found = found | (3 < mask[i]);
+    }
+    found
+}
+
+// Whether some surveyed sample is above a full scale of 16 bits, likewise.
+fn some_over(full_scale: u16, mask: &[u8], frame: &[u16]) -> bool
+    requires { ⌜ length (now frame) ≡ length (now mask) ⌝ }
+    ensures { λ r. ⌜ r ≡ someTo (length (now (mask .entry))) (above «full_scale» (seen (now (mask .entry)) (now (frame .entry)))) ⌝ }
+{
+    let mut found = false;
+    for i in 0..mask.len() {
+        found = found | (full_scale < seen_at(mask[i], frame[i]));
+    }
+    found
+}
+
+// Whether that walk can tell that no surveyed sample is above full scale.
+fn none_over(full_scale: u64, mask: &[u8], frame: &[u16]) -> bool
+    requires { ⌜ length (now frame) ≡ length (now mask) ⌝ }
+    ensures { λ r. ⌜ (r ≡ true → someTo (length (now (mask .entry))) (above «full_scale» (seen (now (mask .entry)) (now (frame .entry)))) ≡ false) ⌝ }
+{
+    if 65535 < full_scale {
+        return false;
+    }
+    !some_over(full_scale as u16, mask, frame)
+}
+
 // The sites that a buffer of this length lets be walked: the window's, where it has just as many, or none.
 fn walkable(width: usize, height: usize, long: usize) -> usize
     ensures { λ r. ⌜ r ≡ walked width height long ⌝ }
@@ -181,6 +216,9 @@ pub fn codes(width: usize, height: usize, mask: &[u8]) -> Verdict
     if n == 0 {
         return Verdict::Clear;
     }
+    if !some_bad_code(mask) {
+        return Verdict::Clear;
+    }
     let place = first_bad_code(width, height, mask);
     refuse_if(5, place, place < n)
 }
@@ -194,6 +232,9 @@ pub fn samples(width: usize, height: usize, full_scale: u64, mask: &[u8], frame:
         return Verdict::Clear;
     }
     if walkable(width, height, frame.len()) == 0 {
+        return Verdict::Clear;
+    }
+    if none_over(full_scale, mask, frame) {
         return Verdict::Clear;
     }
     let place = first_over(width, height, full_scale, mask, frame);

@@ -2,7 +2,8 @@
 use mathlib.Core.Path.{sym, _∙_}
 use lib.ListN.{length}
 use borrow.Author.Needs.{needs}
-use Rattle.window.proofs.Walks.{Whole, found, walked-some, none-walked}
+use borrow.Author.Tests.{not-true}
+use Rattle.window.proofs.Walks.{Whole, found, walked-some, none-walked, none-found}
 use Rattle.window.proofs.codes.Statement.{statement}
 use Rattle.window.proofs.codes.Tie as tie
 
@@ -16,19 +17,26 @@ walkable-requires c κs = search needs
 returns : tie.Need-returns
 returns c = none-walked 5 _ _ (sym (c .before .walkable .ensures) ∙ c .if1 .taken)
 
+some-bad-code-requires : tie.Need-some-bad-code-requires
+some-bad-code-requires c κs = search needs
+
+returns-2 : tie.Need-returns-2
+returns-2 c = let m = masked (c .before .before) in
+    none-found 5 _ _ _ (m .sites ∙ sym (m .holds)) (sym (c .before .some-bad-code .ensures) ∙ not-true _ (c .if2 .taken))
+
 first-bad-code-requires : tie.Need-first-bad-code-requires
-first-bad-code-requires c κs = masked c .holds
+first-bad-code-requires c κs = masked (c .before .before) .holds
 
 refuse-if-requires : tie.Need-refuse-if-requires
 refuse-if-requires c κs = search needs
 
-returns-2 : tie.Need-returns-2
-returns-2 c =
-    let n = masked (c .before .before) .sites in
+returns-3 : tie.Need-returns-3
+returns-3 c =
+    let n = masked (c .before .before .before .before) .sites in
     c .refuse-if .ensures
-    ∙ found 5 _ _ _ _ _ (c .before .before .before .walkable .ensures ∙ n) n (c .before .first-bad-code .ensures)
+    ∙ found 5 _ _ _ _ _ (c .before .before .before .before .before .walkable .ensures ∙ n) n (c .before .first-bad-code .ensures)
 
 pub codes-spec : {M : Type 1} → statement M
 codes-spec =
     tie.close
-    (tie.spec walkable-requires returns first-bad-code-requires refuse-if-requires returns-2)
+    (tie.spec walkable-requires returns some-bad-code-requires returns-2 first-bad-code-requires refuse-if-requires returns-3)

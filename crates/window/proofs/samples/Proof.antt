@@ -3,7 +3,7 @@ use mathlib.Core.Path.{sym, _∙_}
 use native.Mathlib.Omega.{arith}
 use lib.ListN.{length}
 use borrow.Author.Needs.{needs}
-use Rattle.window.proofs.Walks.{Whole, walked-some, none-walked, found}
+use Rattle.window.proofs.Walks.{Whole, walked-some, none-walked, none-found, found}
 use Rattle.window.proofs.samples.Statement.{statement}
 use Rattle.window.proofs.samples.Tie as tie
 
@@ -29,18 +29,25 @@ walkable-requires-2 c κs = search needs
 returns-2 : tie.Need-returns-2
 returns-2 c = none-walked 6 _ _ (omega (arith, sym (c .before .walkable2 .ensures) ∙ c .if2 .taken))
 
+none-over-requires : tie.Need-none-over-requires
+none-over-requires c κs = framed c .holds ∙ sym (masked (c .before .before) .holds)
+
+returns-3 : tie.Need-returns-3
+returns-3 c = let m = masked (c .before .before .before .before) in
+    none-found 6 _ _ _ (omega (arith, m .sites, framed (c .before .before) .sites, m .holds)) (c .before .none-over .ensures (c .if3 .taken))
+
 first-over-requires : tie.Need-first-over-requires
-first-over-requires c κs = (masked (c .before .before) .holds, framed c .holds)
+first-over-requires c κs = (masked (c .before .before .before .before) .holds, framed (c .before .before) .holds)
 
 refuse-if-requires : tie.Need-refuse-if-requires
 refuse-if-requires c κs = search needs
 
-returns-3 : tie.Need-returns-3
-returns-3 c =
-    let n = masked (c .before .before .before .before) .sites in
-    let m = framed (c .before .before) .sites in
+returns-4 : tie.Need-returns-4
+returns-4 c =
+    let n = masked (c .before .before .before .before .before .before) .sites in
+    let m = framed (c .before .before .before .before) .sites in
     c .refuse-if .ensures
-    ∙ found 6 _ _ _ _ _ (c .before .before .before .before .before .walkable .ensures ∙ n) (omega arith) (c .before .first-over .ensures)
+    ∙ found 6 _ _ _ _ _ (c .before .before .before .before .before .before .before .walkable .ensures ∙ n) (omega arith) (c .before .first-over .ensures)
 
 pub samples-spec : {M : Type 1} → statement M
 samples-spec =
@@ -50,6 +57,8 @@ samples-spec =
     returns
     walkable-requires-2
     returns-2
+    none-over-requires
+    returns-3
     first-over-requires
     refuse-if-requires
-    returns-3)
+    returns-4)
