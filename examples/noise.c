@@ -3,6 +3,8 @@
  * bindings/rust/examples/noise.rs is the same program in Rust.
  *
  *   cc noise.c $(pkg-config --cflags --libs tippovrain) -o noise
+ *
+ * Where the library was installed below a PREFIX of your own: PKG_CONFIG_PATH=PREFIX/lib/pkgconfig.
  */
 #include <inttypes.h>
 #include <stdio.h>

@@ -7,6 +7,8 @@
  *
  *   cc mine.c $(pkg-config --cflags --libs tippovrain)
  *
+ * (where it was installed below a PREFIX of your own: PKG_CONFIG_PATH=PREFIX/lib/pkgconfig).
+ *
  * A worked example: the noise of two frames, four sites wide and two high, samples of 10 bits, with a gap at site 5.
  *
  *   #include <stdio.h>
@@ -464,7 +466,8 @@ uint64_t tip_colour_ratios(size_t width, size_t height, uint64_t full_scale, uin
  * there. After field 2: 1, then 24 (a side above 64). After field 0: 23 (bytes follow), then the library's refusals:
  * 2, 5, 6, 7 of pair noise, then 3 of the dark level.
  *
- *   tip_job(input, 46, &place, &sites, &p, &q, &r, &dark) on the stream of K1 (crates/job/stdin)
+ *   tip_job(input, 46, &place, &sites, &p, &q, &r, &dark), of a 2 by 2 window with every site surveyed, full scale
+ *   1023, black level 64 and the frames 100 101 102 103 and 101 101 102 104,
  *                                                        gives 0, and 4, 4 / 32, 90 / 256, 150 / 4
  */
 uint64_t tip_job(const uint8_t *input, size_t input_len,

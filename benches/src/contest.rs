@@ -82,7 +82,7 @@ impl<I, O: Debug + PartialEq> Contested for Contest<I, O> {
         let library = least[0];
         for ((name, _), plain) in self.plain.iter().zip(&least[1..]) {
             println!(
-                "{:<18} {:<16} {:>12.1} {:>12.1} {:>7.3}",
+                "{:<22} {:<14} {:>12.1} {:>12.1} {:>7.3}",
                 self.call,
                 name,
                 library,

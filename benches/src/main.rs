@@ -16,7 +16,7 @@ fn main() -> ExitCode {
     match words.iter().map(String::as_str).collect::<Vec<_>>()[..] {
         [] => {
             println!(
-                "{:<18} {:<16} {:>12} {:>12} {:>7}",
+                "{:<22} {:<14} {:>12} {:>12} {:>7}",
                 "call", "plain Rust", "library ns", "plain ns", "ratio"
             );
             calls::all().iter().for_each(|contest| contest.time());
