@@ -10,11 +10,15 @@ use Rattle.laws.proofs.Sole.{Sole, sole}
 use Rattle.window.specs.Shape.{sitesOf}
 use Rattle.window.specs.View.{surveyed, seen, one}
 use Rattle.window.specs.Plane.{rowParity, columnParity}
+use Rattle.window.specs.Verdict.{numberOf, placeOf, ifClear}
+use Rattle.window.specs.declared.Verdict.{Verdict}
+use Rattle.window.specs.declared.Verdict.the-variants as verdict
 use Rattle.window.proofs.Verdicts.{Tabled, Refuses, refuses}
 use Rattle.window.proofs.Views.{Agree, same-view}
 use Rattle.colour.specs.Bayer.{mosaic, mosaicOf}
 use Rattle.colour.specs.Centre.{centreOf}
-use Rattle.colour.specs.Colour.{centresSeen, frameVerdict, colourVerdict, colourAnswer, noRatio, colourPaper}
+use Rattle.colour.specs.Colour.{ratioOf, centresSeen, frameVerdict, colourVerdict, answered, colourAnswer, noRatio, paperOf, colourPaper}
+use Rattle.colour.specs.declared.Centres.{Centres}
 use Rattle.colour.specs.declared.Colour.the-variants.{OverGr}
 use Rattle.colour.specs.declared.Mosaic.{Mosaic}
 use Rattle.colour.specs.declared.Ratio.{Ratio}
@@ -27,6 +31,23 @@ module _ (w h full black order : ℕ) (mask frame : List ℕ) where
   -- only: no second answer meets the promise
   pub only : Sole (colourAnswer w h full black order mask frame)
   only = sole _
+
+  -- the paper's numbers are those of the answer
+  pub paper-is : paperOf (colourAnswer w h full black order mask frame) ≡ colourPaper w h full black order mask frame
+  unfolding colourAnswer colourPaper
+  paper-is = by (colourVerdict w h full black order mask frame) (centresSeen w h order mask frame)
+    where
+      by : (v : Verdict) (shown : Centres)
+          → paperOf (answered v black shown)
+          ≡ record {
+            number = numberOf v;
+            place = placeOf v;
+            r = ifClear v (ratioOf black (shown .r) (shown .gr)) noRatio;
+            b = ifClear v (ratioOf black (shown .b) (shown .gr)) noRatio;
+            gb = ifClear v (ratioOf black (shown .gb) (shown .gr)) noRatio;
+          }
+      by verdict.Clear shown = refl
+      by (verdict.Refused r) shown = refl
 
   -- given: 1 to 6, 9, 7 and 10 exactly as document 01 tables them, in that order (`tests` has the table). 9 before 7 is the one exception
   -- to ascending numbers: a window that is too small gets 9, even with no surveyed site

@@ -12,9 +12,12 @@ use Rattle.laws.proofs.Signeds.{⊖-below, ⊖-self, ⊖-cross}
 use Rattle.laws.proofs.Sole.{Sole, sole}
 use Rattle.window.specs.Shape.{sitesOf}
 use Rattle.window.specs.View.{seen, one}
+use Rattle.window.specs.Verdict.{numberOf, placeOf, ifClear}
+use Rattle.window.specs.declared.Verdict.{Verdict}
+use Rattle.window.specs.declared.Verdict.the-variants as verdict
 use Rattle.window.proofs.Verdicts.{Tabled, Refuses, refuses}
 use Rattle.window.proofs.Views.{Agree, same-view}
-use Rattle.dark.specs.Dark.{aboveBlack, darkVerdict, darkAnswer, darkPaper}
+use Rattle.dark.specs.Dark.{aboveBlack, darkVerdict, answered, darkAnswer, paperOf, darkPaper}
 use Rattle.dark.specs.declared.Dark.the-variants.{Level}
 use Rattle.dark.proofs.Levels.{tests, table, accepted, level-is}
 
@@ -22,6 +25,16 @@ module _ (w h full black : ℕ) (mask frame : List ℕ) where
   -- only: no second answer meets the promise
   pub only : Sole (darkAnswer w h full black mask frame)
   only = sole _
+
+  -- the paper's numbers are those of the answer
+  pub paper-is : paperOf (darkAnswer w h full black mask frame) ≡ darkPaper w h full black mask frame
+  unfolding darkAnswer darkPaper
+  paper-is = by (darkVerdict w h full black mask frame) _ _
+    where
+      by : (v : Verdict) (a : ℤ) (n : ℕ)
+          → paperOf (answered v a n) ≡ record { number = numberOf v; place = placeOf v; numerator = ifClear v a (pos 0); denominator = ifClear v n 0 }
+      by verdict.Clear a n = refl
+      by (verdict.Refused r) a n = refl
 
   -- given: 1 to 7 exactly as document 01 tables them, in that order (`tests` has the table)
   pub given : Tabled (darkVerdict w h full black mask frame) (tests w h full black mask frame)

@@ -1,5 +1,6 @@
 -- Demand 1: bad input gets document 01's refusal number with its place; all other numbers of the answer are zero, and no lent buffer changes.
 -- Of every call, whatever buffers and numbers are handed in. That each call ends is what the check proves of a function with no `requires`.
+-- A buffer that is only read is lent as `&[..]`, which leaves it as it is; of those that are written each is named below.
 use Prim.Native.Nat.{ℕ}
 use mathlib.Core.List.{List}
 use mathlib.Core.Path.{_≡_, refl}
@@ -10,15 +11,18 @@ use Rattle.window.specs.Verdict.{numberOf, placeOf}
 use Rattle.window.specs.declared.Verdict.{Verdict}
 use Rattle.window.proofs.Verdicts.{Test, Tabled, Refuses}
 use Rattle.raw.specs.Unpack.{unpackVerdict, unpackPaper, unpackBuffer}
+use Rattle.raw.specs.Unpack as unpacking
 use Rattle.raw.proofs.Unpacks as raw-table
 use Rattle.raw.proofs.Promises as raw
 use Rattle.pair.specs.Pair.{pairVerdict}
 use Rattle.pair.specs.Answers as pair-answers
 use Rattle.pair.proofs.Promises as pair
 use Rattle.dark.specs.Dark.{darkVerdict, darkPaper}
+use Rattle.dark.specs.Dark as levels
 use Rattle.dark.proofs.Levels as dark-table
 use Rattle.dark.proofs.Promises as dark
 use Rattle.stack.specs.Add.{addVerdict, addPaper, addSums, addSquares}
+use Rattle.stack.specs.Add as adding
 use Rattle.stack.specs.Variance as variance
 use Rattle.stack.proofs.Adds as add-table
 use Rattle.stack.proofs.Variances as variance-table
@@ -26,28 +30,34 @@ use Rattle.stack.proofs.Promises as stack
 use Rattle.pattern.specs.Lines as pattern-lines
 use Rattle.pattern.specs.Figures.{noFigures}
 use Rattle.pattern.specs.Pattern.{patternVerdict, patternPaper}
+use Rattle.pattern.specs.Pattern as patterns
 use Rattle.pattern.proofs.Judges as pattern-table
 use Rattle.pattern.proofs.Promises as pattern
 use Rattle.sites.specs.Find.{findVerdict, findPaper, findMask}
+use Rattle.sites.specs.Find as searches
 use Rattle.sites.specs.Repair.{repairVerdict, repairPaper, repairFrame, repairMask}
+use Rattle.sites.specs.Repair as repairs
 use Rattle.sites.proofs.Accepts.{find-tests, repair-tests}
 use Rattle.sites.proofs.FindPromises as finding
 use Rattle.sites.proofs.RepairPromises as repairing
 use Rattle.lines.specs.Lines as plane-lines
 use Rattle.lines.specs.Marks.{linesVerdict, linesPaper, linesBuffer}
+use Rattle.lines.specs.Marks as line-marks
 use Rattle.lines.proofs.Marking as lines-table
 use Rattle.lines.proofs.Promises as marking
 use Rattle.colour.specs.Colour.{colourVerdict, colourPaper, noRatio}
+use Rattle.colour.specs.Colour as ratios
 use Rattle.colour.proofs.Judged as colour-table
 use Rattle.colour.proofs.Promises as colour
 use Rattle.stream.specs.Job.{jobVerdict, jobPaper}
+use Rattle.stream.specs.Job as jobs
 use Rattle.stream.proofs.Promises as stream
 
 -- of one call: what it tests, the number and the place of its answer, and what else is so where it refuses
 pub record Refusing (verdict : Verdict) (tests : List Test) (number place : ℕ) (Untouched : Type 0) : Type 0 where
   -- a number is given, at a place, exactly where a test of the table has them and applies, and none before it does
   pub given : Tabled verdict tests
-  -- these are the number and the place of the answer
+  -- these are the paper's number and place
   pub told : (number ≡ numberOf verdict) × (place ≡ placeOf verdict)
   -- where the number is not 0 the rest is untouched, and where it is 0 so is the place
   pub refused : Refuses number place Untouched
@@ -121,4 +131,46 @@ demand-1 = record {
   defective-lines = λ lines w h full mask frame marks. record { given = marking.given lines w h full mask frame marks; told = (refl, refl); refused = marking.refused lines w h full mask frame marks };
   colour-ratios = λ w h full black order mask frame. record { given = colour.given w h full black order mask frame; told = (refl, refl); refused = colour.refused w h full black order mask frame };
   job = λ s. record { given = stream.given s; told = (refl, refl); refused = stream.refused s };
+}
+
+-- and the paper's numbers, of which all this speaks, are those of the answer: 0, 0 and the figures, or the refusal's and zeros
+pub record Numbers : Type 0 where
+  pub unpack-raw10 : (w h : ℕ) (bytes out : List ℕ)
+      → unpacking.paperOf (unpacking.unpackAnswer w h (length bytes) (length out)) ≡ unpackPaper w h (length bytes) (length out)
+  pub pair-noise : (w h full : ℕ) (mask first second : List ℕ)
+      → (pair-answers.variancePaperOf (pair-answers.varianceAnswer w h full mask first second) ≡ pair-answers.variancePaper w h full mask first second)
+      × (pair-answers.noisePaperOf (pair-answers.noiseAnswer w h full mask first second) ≡ pair-answers.noisePaper w h full mask first second)
+  pub dark-level : (w h full black : ℕ) (mask frame : List ℕ)
+      → levels.paperOf (levels.darkAnswer w h full black mask frame) ≡ darkPaper w h full black mask frame
+  pub stack-add : (w h full k : ℕ) (mask frame sums squares : List ℕ)
+      → adding.addPaperOf (adding.addAnswer w h full k mask frame sums squares) ≡ addPaper w h full k mask frame sums squares
+  pub stack-variance : (w h full k : ℕ) (mask sums squares : List ℕ)
+      → variance.variancePaperOf (variance.varianceAnswer w h full k mask sums squares) ≡ variance.variancePaper w h full k mask sums squares
+  pub pattern-noise : (lines : ℕ → ℕ → pattern-lines.Lines) (w h full k : ℕ) (mask sums : List ℕ)
+      → patterns.paperOf (patterns.patternAnswer lines w h full k mask sums) ≡ patternPaper lines w h full k mask sums
+  pub find-defects : (w h full t : ℕ) (mask frame out : List ℕ)
+      → searches.foundPaperOf (searches.findAnswer w h full t mask frame (length out)) ≡ findPaper w h full t mask frame (length out)
+  pub repair : (w h full : ℕ) (mask frame outFrame outMask : List ℕ)
+      → repairs.filledPaperOf (repairs.repairAnswer w h full mask frame (length outFrame) (length outMask))
+      ≡ repairPaper w h full mask frame (length outFrame) (length outMask)
+  pub defective-lines : (lines : ℕ → ℕ → plane-lines.Lines) (w h full : ℕ) (mask frame marks : List ℕ)
+      → line-marks.paperOf (line-marks.linesAnswer lines w h full mask frame (length marks)) ≡ linesPaper lines w h full mask frame (length marks)
+  pub colour-ratios : (w h full black order : ℕ) (mask frame : List ℕ)
+      → ratios.paperOf (ratios.colourAnswer w h full black order mask frame) ≡ colourPaper w h full black order mask frame
+  pub job : (s : List ℕ)
+      → jobs.paperOf (jobs.jobAnswer s) ≡ jobPaper s
+
+pub numbers : Numbers
+numbers = record {
+  unpack-raw10 = raw.paper-is;
+  pair-noise = pair.paper-is;
+  dark-level = dark.paper-is;
+  stack-add = stack.add-paper-is;
+  stack-variance = stack.variance-paper-is;
+  pattern-noise = pattern.paper-is;
+  find-defects = finding.paper-is;
+  repair = repairing.paper-is;
+  defective-lines = marking.paper-is;
+  colour-ratios = colour.paper-is;
+  job = stream.paper-is;
 }

@@ -1,5 +1,6 @@
 -- Demand 2: in every call that takes a mask only surveyed sites count: what a frame holds at any other site changes no figure, no verdict,
 -- no refusal. And no call turns a gap into anything else. `Agree mask f g`: f and g have one length, and hold the same at every surveyed site.
+-- Answers are compared; the paper's numbers are those of the answer (`numbers` of Demand1), so they are the same too.
 use Prim.Native.Nat.{ℕ, _<_}
 use mathlib.Core.Bool.{true}
 use mathlib.Core.List.{List}
@@ -75,8 +76,8 @@ pub record Blind : Type 0 where
       × (linesBuffer lines w h full mask frame marks ≡ linesBuffer lines w h full mask other marks)
   pub colour-ratios : (w h full black order : ℕ) (mask frame other : List ℕ) → Agree mask frame other
       → colourAnswer w h full black order mask frame ≡ colourAnswer w h full black order mask other
-  -- two streams of one window, full scale, black level and mask, whose frames agree at the surveyed sites
-  pub job : (s t : List ℕ) → stream.Alike s t → streamVerdict s ≡ verdict.Clear → streamVerdict t ≡ verdict.Clear → jobAnswer s ≡ jobAnswer t
+  -- two streams of one window, full scale, black level and mask, whose frames agree at the surveyed sites, and which have one fault or none
+  pub job : (s t : List ℕ) → stream.Alike s t → streamVerdict s ≡ streamVerdict t → jobAnswer s ≡ jobAnswer t
 
 -- ---- a gap stays a gap, in the two masks that are written
 pub record Gaps : Type 0 where

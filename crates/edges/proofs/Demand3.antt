@@ -15,13 +15,11 @@ use Rattle.exact.specs.Bound.{plain, CloseTo, NearRoot}
 use Rattle.window.specs.Shape.{sitesOf}
 use Rattle.window.specs.View.{seen, one}
 use Rattle.pair.specs.Pair.{difference, numerator, spreadOf}
-use Rattle.pair.specs.Answers.{varianceAnswer, variancePaper, noiseAnswer, noisePaper}
-use Rattle.pair.specs.declared.Variance.the-variants as variance
-use Rattle.pair.specs.declared.Noise.the-variants as noise
+use Rattle.pair.specs.Answers.{variancePaper, noisePaper}
 use Rattle.pair.proofs.Spreads.{SameDifference}
 use Rattle.pair.proofs.Promises as pair
 
--- of two frames whose variance P/Q was answered as x, and whose noise as y with r and n beside it
+-- of two frames whose variance is P/Q and x as a float, and whose noise is y with r and n beside it
 pub record Demand3 (w h full : ℕ) (mask first second : List ℕ) (p q : ℕ) (x y : Float) (r n : ℕ) : Type 0 where
   -- n counts the surveyed sites; there are at least 2, and no more than the largest window has
   pub counted : (n ≡ sumTo (sitesOf w h) (one mask)) × (2 ≤ n) × (n ≤ 16384)
@@ -43,28 +41,29 @@ pub record Demand3 (w h full : ℕ) (mask first second : List ℕ) (p q : ℕ) (
 
 module _ (w h full : ℕ) (mask first second : List ℕ) where
   -- frames that one call accepts the other accepts
-  pub both-accept : (variancePaper w h full mask first second .number ≡ noisePaper w h full mask first second .number)
-      × (variancePaper w h full mask first second .place ≡ noisePaper w h full mask first second .place)
-  both-accept = pair.alike w h full mask first second
+  pub both-accept : variancePaper w h full mask first second .number ≡ noisePaper w h full mask first second .number
+  both-accept = pair.alike w h full mask first second .0
 
-  pub demand-3 : (p q : ℕ) (x y : Float) (r n : ℕ)
-      → varianceAnswer w h full mask first second ≡ variance.Figures p q x
-      → noiseAnswer w h full mask first second ≡ noise.Figure y r n
-      → Demand3 w h full mask first second p q x y r n
+  -- so for any two accepted frames, of all numbers of both answers
+  pub demand-3 : variancePaper w h full mask first second .number ≡ 0
+      → let v = variancePaper w h full mask first second in
+      let z = noisePaper w h full mask first second in
+      Demand3 w h full mask first second (v .p) (v .q) (v .variance) (z .noise) (z .r) (z .n)
   unfolding spreadOf
-  demand-3 p q x y r n v z =
-      let is = pair.whole-numbers w h full mask first second p q x v in
-      let counted = pair.counts w h full mask first second y r n z in
-      let close = pair.noise-close w h full mask first second y r n z in
+  demand-3 accepted =
+      let answers = pair.both-answer w h full mask first second accepted in
+      let is = pair.whole-numbers w h full mask first second _ _ _ (answers .0) in
+      let counted = pair.counts w h full mask first second _ _ _ (answers .1) in
+      let close = pair.noise-close w h full mask first second _ _ _ (answers .1) in
       record {
         counted = counted;
-        exact = rw (counted .0) (pair.signed w h full mask first second p q x v, is .1);
+        exact = rw (counted .0) (pair.signed w h full mask first second _ _ _ (answers .0), is .1);
         room = (is .2, is .3);
-        zero = pair.flat w h full mask first second p q x v;
-        variance-near = pair.near w h full mask first second p q x v;
-        variance-zero = pair.none w h full mask first second p q x v;
+        zero = pair.flat w h full mask first second _ _ _ (answers .0);
+        variance-near = pair.near w h full mask first second _ _ _ (answers .0);
+        variance-zero = pair.none w h full mask first second _ _ _ (answers .0);
         root = rw (is .0) (close .0);
         noise-number = close .1;
         noise-near = rw (is .0) (close .2);
-        noise-zero = λ e. pair.noise-none w h full mask first second y r n z (sym (is .0) ∙ e);
+        noise-zero = λ e. pair.noise-none w h full mask first second _ _ _ (answers .1) (sym (is .0) ∙ e);
       }

@@ -1,4 +1,5 @@
--- Every promise leaves one answer and one final state of every buffer. `Sole x`: any two that are x are one.
+-- Every promise leaves one answer and one final state of every buffer: each clause of a contract says that an answer, or a buffer at exit, IS
+-- one of these (`tools/promises` sees that none is without its clause), and `Sole x` says that any two that are x are one.
 use Prim.Native.Nat.{ℕ}
 use mathlib.Core.List.{List}
 use lib.ListN.{length}

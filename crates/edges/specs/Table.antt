@@ -45,26 +45,33 @@ abbrev raised : ℕ → List ℕ
 raised last = tabulate 396 (λ (i : ℕ). cond (eqb (i / 22) 8 && eqb (i % 2) 0) (cond (ltb i last) 103 102) 100)
 
 pub record Edges : Type 0 where
-  -- 4/32 is 1 × 2⁻³, and 90/256 is 45 × 2⁻⁷
+  -- 2 × 2, frames 100 101 102 103 and 101 101 102 104: n 4, P 4, Q 32, r 90, noise 90/256 (4/32 is 1 × 2⁻³, 90/256 is 45 × 2⁻⁷)
   pub K1 : (pairSpread 2 2 (all 4 0) ramp (101 ∷ 101 ∷ 102 ∷ 104 ∷ []) ≡ record { n = 4; p = 4 })
       × (varianceAnswer 2 2 1023 (all 4 0) ramp (101 ∷ 101 ∷ 102 ∷ 104 ∷ []) ≡ variance.Figures 4 32 (fin false 1 (negsuc 2)))
       × (noiseAnswer 2 2 1023 (all 4 0) ramp (101 ∷ 101 ∷ 102 ∷ 104 ∷ []) ≡ noise.Figure (fin false 45 (negsuc 6)) 90 4)
+  -- second frame = first + 7 everywhere: P 0, both floats 0
   pub K2 : (pairSpread 2 2 (all 4 0) ramp (107 ∷ 108 ∷ 109 ∷ 110 ∷ []) ≡ record { n = 4; p = 0 })
       × (varianceAnswer 2 2 1023 (all 4 0) ramp (107 ∷ 108 ∷ 109 ∷ 110 ∷ []) ≡ variance.Figures 0 32 (ofBits binary64 0))
       × (noiseAnswer 2 2 1023 (all 4 0) ramp (107 ∷ 108 ∷ 109 ∷ 110 ∷ []) ≡ noise.Figure (ofBits binary64 0) 0 4)
+  -- bytes 25 25 25 25 228 unpack to 100 101 102 103
   pub K3 : (unpackAnswer 2 2 5 4 ≡ raw.Done) × (unpackBuffer 2 2 (25 ∷ 25 ∷ 25 ∷ 25 ∷ 228 ∷ []) (all 4 0) ≡ 100 ∷ 101 ∷ 102 ∷ 103 ∷ [])
+  -- bytes 25 25 25 26 37 unpack to 101 101 102 104
   pub K4 : (unpackAnswer 2 2 5 4 ≡ raw.Done) × (unpackBuffer 2 2 (25 ∷ 25 ∷ 25 ∷ 26 ∷ 37 ∷ []) (all 4 0) ≡ 101 ∷ 101 ∷ 102 ∷ 104 ∷ [])
-  -- −4 over 4
+  -- samples 60 64 64 64, black 64: dark −4/4
   pub K5 : darkAnswer 2 2 1023 64 (all 4 0) (60 ∷ 64 ∷ 64 ∷ 64 ∷ []) ≡ dark.Level (negsuc 3) 4
+  -- 4 × 4, all 64 but one at 102: that one is defective at 28
   pub K6 : (findAnswer 4 4 1023 28 (all 16 0) (but 16 64 5 102) 16 ≡ sites.Found 1)
       × (findMask 4 4 1023 28 (all 16 0) (but 16 64 5 102) (all 16 3) ≡ but 16 0 5 2)
+  -- the same with 101: none
   pub K7 : (findAnswer 4 4 1023 28 (all 16 0) (but 16 64 5 101) 16 ≡ sites.Found 0)
       × (findMask 4 4 1023 28 (all 16 0) (but 16 64 5 101) (all 16 3) ≡ all 16 0)
+  -- width 12, height 2, k 1, full scale 1023, all 100 but column 6 at 110: level² 800/46047276, max 200/20460
   pub K8 : patternAnswer columns 12 2 1023 1 (all 24 0) (striped 100 110)
       ≡ pattern.Measured (record { «level_numerator» = 800; «level_denominator» = 46047276; «max_numerator» = pos 200; «max_denominator» = 20460 })
-  -- row 4 of plane (0,1), whose marks begin at 9
+  -- 2 wide, 18 high; in one plane row 4 is 103, all else 100: row 4 alone is marked (here of plane (0,1), whose marks begin at 9)
   pub K9 : (linesAnswer rows 2 18 1023 (all 36 0) (but 36 100 17 103) 36 ≡ lines.Done)
       × (linesBuffer rows 2 18 1023 (all 36 0) (but 36 100 17 103) (all 36 0) ≡ but 36 0 13 1)
+  -- the same with 102: no mark
   pub K10 : (linesAnswer rows 2 18 1023 (all 36 0) (but 36 100 17 102) 36 ≡ lines.Done)
       × (linesBuffer rows 2 18 1023 (all 36 0) (but 36 100 17 102) (all 36 0) ≡ all 36 0)
 

@@ -13,12 +13,14 @@ use Rattle.laws.proofs.Tables.{getD-tabulate, tabulate-ext}
 use Rattle.laws.proofs.Sole.{Sole, sole}
 use Rattle.window.specs.View.{surveyed, seen, one}
 use Rattle.window.specs.Plane.{siteAt}
+use Rattle.window.specs.Verdict.{refusal, numberOf, placeOf}
+use Rattle.window.specs.declared.Verdict.{Verdict}
 use Rattle.window.specs.declared.Verdict.the-variants as verdict
 use Rattle.window.proofs.Planes.{site-in}
 use Rattle.window.proofs.Verdicts.{Tabled, Refuses, refuses}
 use Rattle.window.proofs.Views.{Agree, same-view}
 use Rattle.lines.specs.Lines.{Lines, rows, columns, markOf, lineSum, markAt}
-use Rattle.lines.specs.Marks.{linesVerdict, linesAnswer, linesPaper, linesBuffer}
+use Rattle.lines.specs.Marks.{linesVerdict, answered, linesAnswer, paperOf, linesPaper, linesBuffer}
 use Rattle.lines.specs.declared.Marked.the-variants.{Done}
 use Rattle.lines.proofs.Pools.{mark-line}
 use Rattle.lines.proofs.Marking.{Accepted, tests, table, accepted, accepted-is, done-clear}
@@ -29,6 +31,15 @@ module _ (lines : ℕ → ℕ → Lines) (w h full : ℕ) (mask frame marks : Li
   -- only: no second answer and no second final buffer meets the promise
   pub only : Sole (linesAnswer lines w h full mask frame (length marks)) × Sole (linesBuffer lines w h full mask frame marks)
   only = (sole _, sole _)
+
+  -- the paper's numbers are those of the answer
+  pub paper-is : paperOf (linesAnswer lines w h full mask frame (length marks)) ≡ linesPaper lines w h full mask frame (length marks)
+  unfolding linesAnswer linesPaper
+  paper-is = by (linesVerdict lines w h full mask frame (length marks))
+    where
+      by : (v : Verdict) → paperOf (answered v) ≡ refusal (numberOf v) (placeOf v)
+      by verdict.Clear = refl
+      by (verdict.Refused r) = refl
 
   -- given: 1, 2, 4, 5, 6 and 9 exactly as document 01 tables them, in that order (`tests` has the table)
   pub given : Tabled (linesVerdict lines w h full mask frame (length marks)) (tests lines w h full mask frame (length marks))

@@ -20,13 +20,14 @@ use Rattle.exact.proofs.Quotients.{quotient-zero, zero-bits}
 use Rattle.exact.proofs.Noises.{variance-ranged, variance-near, noise-near, noise-plain, noise-zero}
 use Rattle.window.specs.Shape.{badSides, badScale, sitesOf}
 use Rattle.window.specs.View.{badCode, above, seen, one}
-use Rattle.window.specs.Verdict.{_⨟_, refuseIf, refuseFirst}
+use Rattle.window.specs.Verdict.{_⨟_, refuseIf, refuseFirst, numberOf, placeOf, ifClear}
 use Rattle.window.specs.Judge.{shapeOf, otherThan}
+use Rattle.window.specs.declared.Verdict.{Verdict}
 use Rattle.window.specs.declared.Verdict.the-variants as verdict
-use Rattle.window.proofs.Verdicts.{Test, Tabled, Refuses, test, testFirst, tabled, refuses, then-assoc, then-same}
+use Rattle.window.proofs.Verdicts.{Test, Tabled, Refuses, test, testFirst, tabled, refuses, zero-clear, then-assoc, then-same}
 use Rattle.window.proofs.Views.{Agree, same-view}
-use Rattle.pair.specs.Pair.{difference, numerator, spreadOf, pairSpread, framesVerdict, pairVerdict}
-use Rattle.pair.specs.Answers.{varianceAnswer, variancePaper, noiseAnswer, noisePaper}
+use Rattle.pair.specs.Pair.{difference, numerator, spreadOf, pairSpread, Figures, figuresOf, framesVerdict, pairVerdict}
+use Rattle.pair.specs.Answers.{varianceAnswered, varianceAnswer, variancePaperOf, variancePaper, noiseAnswered, noiseAnswer, noisePaperOf, noisePaper}
 use Rattle.pair.specs.declared.Variance.the-variants as variance
 use Rattle.pair.specs.declared.Noise.the-variants as noise
 use Rattle.pair.proofs.Spreads.{SameDifference, whole, zero-same, same-zero}
@@ -84,11 +85,34 @@ module _ (w h full : ℕ) (mask first second : List ℕ) where
   unfolding pairVerdict
   spare = then-same (framesVerdict w h full mask first second) (λ e. last-exact (pairSpread w h mask first second) (in-limits e))
 
-  -- both calls refuse alike, and so accept alike
+  -- the paper's numbers are those of the answers
+  pub paper-is : (variancePaperOf (varianceAnswer w h full mask first second) ≡ variancePaper w h full mask first second)
+      × (noisePaperOf (noiseAnswer w h full mask first second) ≡ noisePaper w h full mask first second)
+  unfolding varianceAnswer variancePaper noiseAnswer noisePaper
+  paper-is = by (pairVerdict w h full mask first second) (figuresOf (pairSpread w h mask first second))
+    where
+      by : (v : Verdict) (f : Figures)
+          → (variancePaperOf (varianceAnswered v f)
+          ≡ record { number = numberOf v; place = placeOf v; p = ifClear v (f .p) 0; q = ifClear v (f .q) 0; variance = ifClear v (f .variance) (ofBits binary64 0) })
+          × (noisePaperOf (noiseAnswered v f)
+          ≡ record { number = numberOf v; place = placeOf v; noise = ifClear v (f .noise) (ofBits binary64 0); r = ifClear v (f .r) 0; n = ifClear v (f .n) 0 })
+      by verdict.Clear f = (refl, refl)
+      by (verdict.Refused r) f = (refl, refl)
+
+  -- both calls refuse alike
   pub alike : (variancePaper w h full mask first second .number ≡ noisePaper w h full mask first second .number)
       × (variancePaper w h full mask first second .place ≡ noisePaper w h full mask first second .place)
   unfolding variancePaper noisePaper
   alike = (refl, refl)
+
+  -- and frames whose number is 0 are answered with figures by both
+  pub both-answer : variancePaper w h full mask first second .number ≡ 0
+      → (varianceAnswer w h full mask first second
+      ≡ variance.Figures (variancePaper w h full mask first second .p) (variancePaper w h full mask first second .q) (variancePaper w h full mask first second .variance))
+      × (noiseAnswer w h full mask first second
+      ≡ noise.Figure (noisePaper w h full mask first second .noise) (noisePaper w h full mask first second .r) (noisePaper w h full mask first second .n))
+  unfolding varianceAnswer variancePaper noiseAnswer noisePaper
+  both-answer e = rw (zero-clear (pairVerdict w h full mask first second) given refl e) (refl, refl)
 
   -- of an accepted noise: n is the count of surveyed sites, from 2 to all sites of the largest window
   pub counts : (x : Float) (r n : ℕ) → noiseAnswer w h full mask first second ≡ noise.Figure x r n

@@ -9,6 +9,7 @@ use lib.IntN.{pos, natAbs}
 use Rattle.laws.proofs.Cases.{times-le}
 use Rattle.laws.proofs.Sole.{Sole, sole}
 use Rattle.window.specs.View.{seen}
+use Rattle.window.specs.Verdict.{numberOf, placeOf, ifClear}
 use Rattle.window.specs.declared.Verdict.{Verdict}
 use Rattle.window.specs.declared.Verdict.the-variants as verdict
 use Rattle.window.proofs.Verdicts.{Tabled, Refuses, refuses}
@@ -37,6 +38,15 @@ module _ (lines : ℕ → ℕ → Lines) (w h full k : ℕ) (mask : List ℕ) wh
       → patternAnswer lines w h full k mask sums ≡ patternAnswer lines w h full k mask others
   unfolding patternAnswer patternVerdict
   blind a = rw (a .long, same-view a)
+
+  -- the paper's numbers are those of the answer
+  pub paper-is : (sums : List ℕ) → paperOf (patternAnswer lines w h full k mask sums) ≡ patternPaper lines w h full k mask sums
+  unfolding patternAnswer patternPaper
+  paper-is sums = by (patternVerdict lines w h full k mask sums) _
+    where
+      by : (v : Verdict) (f : Figures) → paperOf (answered v f) ≡ record { number = numberOf v; place = placeOf v; figures = ifClear v f noFigures }
+      by verdict.Clear f = refl
+      by (verdict.Refused r) f = refl
 
   -- given: 1, 2, 3, 4, 5, 8, 9 and 11 exactly as document 01 tables them, in that order (`tests` has the table)
   pub given : (sums : List ℕ) → Tabled (patternVerdict lines w h full k mask sums) (tests lines w h full k mask sums)

@@ -14,11 +14,11 @@ use Rattle.window.specs.Shape.{badCount, badScale, sitesOf}
 use Rattle.laws.specs.Sum.{sumTo}
 use Rattle.laws.proofs.Tables.{getD-tabulate}
 use Rattle.laws.proofs.Sole.{Sole, sole}
-use Rattle.exact.specs.Quotient.{floatZero}
+use Rattle.exact.specs.Quotient.{quotient, floatZero}
 use Rattle.exact.specs.Bound.{CloseTo}
 use Rattle.exact.proofs.Quotients.{quotient-near, quotient-zero}
 use Rattle.window.specs.View.{surveyed, seen, one}
-use Rattle.window.specs.Verdict.{_⨟_, refuseIf, ifClear}
+use Rattle.window.specs.Verdict.{_⨟_, refuseIf, numberOf, placeOf, ifClear}
 use Rattle.window.specs.Judge.{shapeOf, otherThan, codesOf}
 use Rattle.window.specs.declared.Refusal.{Refusal}
 use Rattle.window.specs.declared.Verdict.{Verdict}
@@ -27,8 +27,8 @@ use Rattle.window.proofs.Verdicts.{Tabled, Refuses, refuses, then-same, then-en
 use Rattle.window.proofs.Views.{Agree, same-view, seen-is, seen-in, seen-out}
 use Rattle.window.proofs.Chains.{shape-clear}
 use Rattle.stack.specs.Sums.{impossibleIn, squared, added, spread}
-use Rattle.stack.specs.Add.{addVerdict, addAnswer, addPaper, addSums, addSquares}
-use Rattle.stack.specs.Variance.{tooFew, varianceVerdict, varianceAnswer, variancePaper}
+use Rattle.stack.specs.Add.{addVerdict, addAnswered, addAnswer, addPaperOf, addPaper, addSums, addSquares}
+use Rattle.stack.specs.Variance.{tooFew, varianceVerdict, varianceAnswered, varianceAnswer, variancePaperOf, variancePaper}
 use Rattle.stack.specs.Run.{Stack, offered, run, runVerdict, overFrames}
 use Rattle.stack.specs.declared.Variance.the-variants.{Figures}
 use Rattle.stack.proofs.Sites.{all-possible}
@@ -44,6 +44,15 @@ module _ (w h full k : ℕ) (mask frame sums squares : List ℕ) where
       × Sole (addSums w h full k mask frame sums squares)
       × Sole (addSquares w h full k mask frame sums squares)
   add-only = (sole _, sole _, sole _)
+
+  -- the paper's numbers are those of the answer
+  pub add-paper-is : addPaperOf (addAnswer w h full k mask frame sums squares) ≡ addPaper w h full k mask frame sums squares
+  unfolding addAnswer addPaper
+  add-paper-is = by (addVerdict w h full k mask frame sums squares) _
+    where
+      by : (v : Verdict) (n : ℕ) → addPaperOf (addAnswered v n) ≡ record { number = numberOf v; place = placeOf v; count = ifClear v n 0 }
+      by verdict.Clear n = refl
+      by (verdict.Refused r) n = refl
 
   -- given: 1 to 6, 11 and 12 exactly as document 01 tables them, in that order (`Adds.tests` has the table)
   pub add-given : Tabled (addVerdict w h full k mask frame sums squares) (adds.tests w h full k mask frame sums squares)
@@ -96,6 +105,16 @@ module _ (w h full k : ℕ) (mask sums squares : List ℕ) where
   -- only
   pub variance-only : Sole (varianceAnswer w h full k mask sums squares)
   variance-only = sole _
+
+  pub variance-paper-is : variancePaperOf (varianceAnswer w h full k mask sums squares) ≡ variancePaper w h full k mask sums squares
+  unfolding varianceAnswer variancePaper
+  variance-paper-is = by (varianceVerdict w h full k mask sums squares) _ _
+    where
+      by : (v : Verdict) (a b : ℕ)
+          → variancePaperOf (varianceAnswered v a b)
+          ≡ record { number = numberOf v; place = placeOf v; numerator = ifClear v a 0; denominator = ifClear v b 0; variance = ifClear v (quotient a b) (ofBits binary64 0) }
+      by verdict.Clear a b = refl
+      by (verdict.Refused r) a b = refl
 
   -- given: 1 to 5, 7, 11 and 14 exactly as document 01 tables them, in that order (`Variances.tests` has the table)
   pub variance-given : Tabled (varianceVerdict w h full k mask sums squares) (variances.tests w h full k mask sums squares)

@@ -8,7 +8,7 @@ use lib.ListN.{length, take, length-take, length-drop}
 use lib.Seq.{take-all}
 use Rattle.laws.proofs.Tables.{length-tabulate}
 use Rattle.laws.proofs.Sole.{Sole, sole}
-use Rattle.window.specs.Verdict.{refusal, _⨟_}
+use Rattle.window.specs.Verdict.{refusal, _⨟_, numberOf, placeOf, ifClear}
 use Rattle.window.specs.declared.Verdict.{Verdict}
 use Rattle.window.specs.declared.Verdict.the-variants as verdict
 use Rattle.window.proofs.Verdicts.{Test, Tabled, Refuses, refuses, inTurn, tabled, tabled-then, then-same, then-clear}
@@ -16,13 +16,13 @@ use Rattle.window.proofs.Views.{Agree}
 use Rattle.raw.specs.Packed.{sampleAt}
 use Rattle.raw.specs.Unpack.{unpackBuffer}
 use Rattle.pair.specs.Pair.{spreadOf, pairVerdict}
-use Rattle.pair.specs.Answers.{noisePaper}
+use Rattle.pair.specs.Answers.{VariancePaper, NoisePaper, noisePaper}
 use Rattle.pair.proofs.Promises as pair
-use Rattle.dark.specs.Dark.{darkVerdict, darkPaper}
+use Rattle.dark.specs.Dark.{darkVerdict, Paper, darkPaper}
 use Rattle.dark.proofs.Promises as dark
 use Rattle.stream.specs.Fields.{bodyAt}
 use Rattle.stream.specs.Stream.{widthOf, heightOf, fullOf, blackOf, sitesIn, packedIn, firstField, secondField, unpacked, maskOf, firstOf, secondOf, streamVerdict}
-use Rattle.stream.specs.Job.{jobVerdict, varianceIn, noiseIn, darkIn, answered, jobAnswer, jobPaper}
+use Rattle.stream.specs.Job.{jobVerdict, varianceIn, noiseIn, darkIn, answered, jobAnswer, paperOf, jobPaper}
 use Rattle.stream.specs.Walk.{directly}
 use Rattle.stream.specs.declared.Answer.the-variants.{Figures, Refused}
 use Rattle.stream.proofs.Streams.{Faultless, faultless}
@@ -39,6 +39,27 @@ module _ (s : List ℕ) where
   -- only: no second answer meets the promise
   pub only : Sole (jobAnswer s)
   only = sole _
+
+  -- the paper's numbers are those of the answer
+  pub paper-is : paperOf (jobAnswer s) ≡ jobPaper s
+  unfolding jobAnswer jobPaper
+  paper-is = by (jobVerdict s) (varianceIn s) (noiseIn s) (darkIn s)
+    where
+      by : (v : Verdict) (f : VariancePaper) (x : NoisePaper) (d : Paper)
+          → paperOf (answered v f x d)
+          ≡ record {
+            number = numberOf v;
+            place = placeOf v;
+            sites = ifClear v (x .n) 0;
+            p = ifClear v (f .p) 0;
+            q = ifClear v (f .q) 0;
+            r = ifClear v (x .r) 0;
+            rOver = ifClear v (64 * x .n) 0;
+            dark = ifClear v (d .numerator) (pos 0);
+            darkOver = ifClear v (d .denominator) 0;
+          }
+      by verdict.Clear f x d = refl
+      by (verdict.Refused r) f x d = refl
 
   -- given: the faults of each field as they are met, 1 and 24 after field 2, 23; then what is left of the library's refusals, in its order
   abbrev pub tests : List Test
@@ -148,10 +169,18 @@ pub record Alike (s t : List ℕ) : Type 0 where
   pub first : Agree (maskOf s) (firstOf s) (firstOf t)
   pub second : Agree (maskOf s) (secondOf s) (secondOf t)
 
--- blind: what a stream's frames hold at unsurveyed sites changes nothing
-pub blind : (s t : List ℕ) → Alike s t → streamVerdict s ≡ verdict.Clear → streamVerdict t ≡ verdict.Clear → jobAnswer s ≡ jobAnswer t
-blind s t a clear clear′ =
+-- of two that have no fault
+figures-alike : (s t : List ℕ) → Alike s t → streamVerdict s ≡ verdict.Clear → streamVerdict t ≡ verdict.Clear → jobAnswer s ≡ jobAnswer t
+figures-alike s t a clear clear′ =
     let pairs = pair.blind (widthOf s) (heightOf s) (fullOf s) (a .first) (a .second) in
     sym (calls-are s clear)
     ∙ together-same (pairs .0) (pairs .1) (dark.blind (widthOf s) (heightOf s) (fullOf s) (blackOf s) (maskOf s) (firstOf s) (firstOf t) (a .first))
     ∙ work-is t clear′ (a .wide) (a .high) (a .full) (a .black) (a .mask) refl refl
+
+-- blind: what a stream's frames hold at unsurveyed sites changes nothing, whatever fault both have
+pub blind : (s t : List ℕ) → Alike s t → streamVerdict s ≡ streamVerdict t → jobAnswer s ≡ jobAnswer t
+blind s t a same = by (streamVerdict s) refl
+  where
+    by : (v : Verdict) → streamVerdict s ≡ v → jobAnswer s ≡ jobAnswer t
+    by verdict.Clear e = figures-alike s t a e (sym same ∙ e)
+    by (verdict.Refused r) e = sym (fault-is s e) ∙ fault-is t (sym same ∙ e)

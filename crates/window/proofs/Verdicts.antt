@@ -197,6 +197,13 @@ number-above : (ts : List Test) {k p : ℕ} → numbered ts ≡ true → Given t
 number-above (t ∷ ts) e (here a) = ltb-true 0 (t .number) (and-true (ltb 0 (t .number)) (numbered ts) e .0)
 number-above (t ∷ ts) e (later a g) = number-above ts (and-true (ltb 0 (t .number)) (numbered ts) e .1) g
 
+-- a verdict whose number is 0 refuses nothing
+pub zero-clear : {ts : List Test} (v : Verdict) → Tabled v ts → numbered ts ≡ true → numberOf v ≡ 0 → v ≡ Clear
+zero-clear Clear t n e = refl
+zero-clear {ts} (Refused r) t n e =
+    let above : 0 < r .number = number-above ts n (t .only (r .number) (r .place) refl) in
+    absurd (omega arith)
+
 -- THE LAW: of any verdict that a table without a 0 says
 pub refuses : {ts : List Test} (v : Verdict) {Untouched : Type 0}
     → Tabled v ts → numbered ts ≡ true → ((r : Refusal) → v ≡ Refused r → Untouched)

@@ -72,7 +72,7 @@ seen-raised mask f g d i = by (surveyed (getD mask i 0))
     by true h = let e = h refl in omega arith
     by false h = omega (arith, mul-zero d)
 
--- two frames of one length that hold the same at every surveyed site
+-- two frames of one length that hold the same at every surveyed site (and past the end of a mask that is shorter, which 4 refuses)
 pub record Agree (mask f g : List ℕ) : Type 0 where
   pub long : length f ≡ length g
   pub same : (i : ℕ) → surveyed (getD mask i 0) ≡ true → getD f i 0 ≡ getD g i 0
