@@ -2,6 +2,7 @@
 
 mod colour;
 mod dark;
+mod job;
 mod lines;
 mod pair;
 mod pattern;
@@ -27,5 +28,6 @@ pub fn all() -> Vec<Box<dyn Contested>> {
         Box::new(lines::rows()),
         Box::new(lines::columns()),
         Box::new(colour::contest()),
+        Box::new(job::contest()),
     ]
 }
