@@ -1,7 +1,15 @@
-// The whole square root, and one rounded division of whole numbers.
+// Whole numbers: how far two are apart, the whole square root, and one rounded division.
 ghost use mathlib.Core.Path.{_≡_};
+ghost use Rattle.laws.specs.Signed.{apart};
 ghost use Rattle.exact.specs.Root.{root};
 ghost use Rattle.exact.specs.Quotient.{quotientOrZero};
+
+// |a − b|.
+pub fn apart(a: u64, b: u64) -> u64
+    ensures { λ r. ⌜ r ≡ apart a b ⌝ }
+{
+    if a < b { b - a } else { a - b }
+}
 
 // The greatest whole number whose square is at most x: Newton's steps, down from a power of two above it.
 pub fn root_of(x: u64) -> u64
@@ -20,7 +28,7 @@ pub fn root_of(x: u64) -> u64
 }
 
 // 2 ^ 53: every whole number up to it becomes an f64 without loss.
-const LOSSLESS: u64 = 0x20_0000_0000_0000;
+pub const LOSSLESS: u64 = 0x20_0000_0000_0000;
 
 // p / q, rounded once; 0.0 where q is 0, or where p or q would lose bits as an f64.
 pub fn ratio(p: u64, q: u64) -> f64

@@ -3,15 +3,13 @@ use Prim.Native.Nat.{ℕ, _+_, _*_, _^_, _<_}
 use mathlib.Core.Logic.{⊎-elim}
 use mathlib.Core.Path.{_≡_, sym, ap₂, _∙_}
 use native.Mathlib.Omega.{arith}
-use lib.Dec.{ltb}
 use lib.IntN.{ℤ, pos, _+ℤ_, _-ℤ_, _*ℤ_}
-use lib.Signed.{ltZ}
 use mir.Syntax.{w64}
 use mir.Val.{SFits, toZ, ofZ}
 use mir.Facts.{toZ-ofZ}
-use Rattle.laws.specs.Signed.{_⊖_, apart}
+use Rattle.laws.specs.Signed.{_⊖_}
 use Rattle.laws.proofs.Cases.{lt-or-ge}
-use Rattle.laws.proofs.Signeds.{⊖-add, ⊖-sub, ⊖-zero, ⊖-eq, ⊖-ge, ⊖-less, ⊖-ltZ, ⊖-square, ⊖-scale}
+use Rattle.laws.proofs.Signeds.{⊖-add, ⊖-sub, ⊖-zero, ⊖-eq, ⊖-ge, ⊖-less, ⊖-scale}
 
 -- a difference of two numbers below 2 ^ 63 fits an i64
 pub ⊖-fits : (a b : ℕ) → a < 2 ^ 63 → b < 2 ^ 63 → SFits w64 (a ⊖ b)
@@ -53,16 +51,6 @@ module _ {x y a b c d : ℕ} (i : Is x a b) (j : Is y c d) where
 
   pub sub-is : a + d < 2 ^ 63 → b + c < 2 ^ 63 → Is (ofZ w64 (toZ w64 x -ℤ toZ w64 y)) (a + d) (b + c)
   sub-is p q = record { val = toZ-ofZ (sub-fits p q) ∙ rw (i .val, j .val) (⊖-sub a b c d); up = p; down = q }
-
-  pub lt-is : ltZ (toZ w64 x) (toZ w64 y) ≡ ltb (a + d) (c + b)
-  lt-is = rw (i .val, j .val) (⊖-ltZ a b c d)
-
-module _ {x a b : ℕ} (i : Is x a b) (h : apart a b * apart a b < 2 ^ 63) where
-  pub square-fits : SFits w64 (toZ w64 x *ℤ toZ w64 x)
-  square-fits = rw (i .val, ⊖-square a b) (nat-fits (apart a b * apart a b) h)
-
-  pub square-is : toZ w64 (ofZ w64 (toZ w64 x *ℤ toZ w64 x)) ≡ pos (apart a b * apart a b)
-  square-is = toZ-ofZ square-fits ∙ rw (i .val) (⊖-square a b)
 
 -- a difference times a number that was cast
 module _ {x a b : ℕ} (n : ℕ) (i : Is x a b) (small : n < 2 ^ 63) (p : a * n < 2 ^ 63) (q : b * n < 2 ^ 63) where

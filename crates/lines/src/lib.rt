@@ -2,7 +2,6 @@
 ghost use mathlib.Core.Path.{_≡_};
 ghost use Prim.Native.Nat.{ℕ, _+_, _*_, _/_, _%_, _<_, _≤_};
 ghost use lib.ListN.{length, getD};
-ghost use Rattle.laws.specs.Signed.{apart};
 ghost use Rattle.laws.specs.Table.{tabulate};
 ghost use Rattle.window.specs.View.{seen, one};
 ghost use Rattle.window.specs.Judge.{walked};
@@ -81,7 +80,7 @@ fn line_box(vertical: bool, width: usize, height: usize, l: usize) -> PlaneBox
     }
 }
 
-// What line l of a plane counts and sums.
+// What line l of a plane counts and sums. One bound, 65535 × 4096, serves both, since one function pools both.
 fn line_sums(
     vertical: bool,
     width: usize,
@@ -158,18 +157,12 @@ fn pool(held: &[u64; 256], lines: usize, first: usize, l: usize) -> u64
     sum
 }
 
-fn distance(a: u64, b: u64) -> u64
-    ensures { λ r. ⌜ r ≡ apart a b ⌝ }
-{
-    if a < b { b - a } else { a - b }
-}
-
 // Whether a line that counts c and sums s is defective beside what the lines around it count and sum.
 fn stands_out(c: u64, s: u64, count: u64, total: u64) -> bool
     requires { ⌜ (c ≤ 268431360) × (s ≤ 268431360) × (count ≤ 4294901760) × (total ≤ 4294901760) ⌝ }
     ensures { λ r. ⌜ r ≡ defective c s count total ⌝ }
 {
-    let far = 5 * c * count < 2 * distance(s * count, total * c);
+    let far = 5 * c * count < 2 * exact::apart(s * count, total * c);
     (0 < c) & ((0 < count) & far)
 }
 

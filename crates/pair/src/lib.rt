@@ -94,17 +94,6 @@ fn squared(first: u16, second: u16) -> u64
     (d * d) as u64
 }
 
-// |sum of d|, of the samples' sums.
-fn sums_apart(first: u64, second: u64) -> u64
-    ensures { λ r. ⌜ r ≡ apart second first ⌝ }
-{
-    if first < second {
-        second - first
-    } else {
-        first - second
-    }
-}
-
 // The one walk. An unsurveyed site adds 0 to every sum.
 fn sums(mask: &[u8], first: &[u16], second: &[u16]) -> Totals
     requires { ⌜ (length (now mask) ≤ 16384) × (length (now first) ≡ length (now mask)) × (length (now second) ≡ length (now mask)) ⌝ }
@@ -138,7 +127,7 @@ fn spread_of(mask: &[u8], first: &[u16], second: &[u16]) -> Spread
     ensures { λ r. ⌜ r ≡ spreadOf (length (now (mask .entry))) (one (now (mask .entry))) (seen (now (mask .entry)) (now (first .entry))) (seen (now (mask .entry)) (now (second .entry))) ⌝ }
 {
     let t = sums(mask, first, second);
-    let d = sums_apart(t.first, t.second);
+    let d = exact::apart(t.second, t.first);
     Spread {
         n: t.n,
         p: t.n * t.squares - d * d,
@@ -162,7 +151,7 @@ fn measure(
     }
     let s = spread_of(mask, first, second);
     let few = window::refuse_if(7, 0, s.n < 2);
-    let large = window::refuse_if(14, 0, 0x20_0000_0000_0000 <= s.p);
+    let large = window::refuse_if(14, 0, exact::LOSSLESS <= s.p);
     match window::then(few, large) {
         Verdict::Refused(refusal) => Measurement::Refused(refusal),
         Verdict::Clear => Measurement::Taken(s),

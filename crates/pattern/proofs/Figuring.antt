@@ -3,9 +3,7 @@ use Prim.Native.Nat.{ℕ, _+_, _-_, _*_, _<_, _≤_}
 use mathlib.Core.Path.{_≡_, ap, ap₂, _∙_}
 use native.Mathlib.Nat.{add-zero, zero-add, sub-self}
 use native.Mathlib.Omega.{arith}
-use lib.IntN.{ℤ, pos, natAbs, _-ℤ_, _*ℤ_}
-use mir.Syntax.{w64}
-use mir.Val.{SFits, toZ, ofZ}
+use lib.IntN.{ℤ, pos, natAbs}
 use Rattle.laws.specs.Sum.{sumTo, sumIn}
 use Rattle.laws.specs.Signed.{apart}
 use Rattle.laws.specs.Greatest.{greater, greatestTo}
@@ -13,19 +11,11 @@ use Rattle.laws.proofs.Greatests.{greatest-more, greatest-of, greatest-ext}
 use Rattle.laws.proofs.Cases.{times-le}
 use Rattle.laws.proofs.Sums.{sum-more, sum-ext, sum-le, sum-zero, in-ext, in-le, in-same}
 use Rattle.laws.proofs.Signeds.{⊖-self, ⊖-size}
-use Rattle.laws.proofs.Machine.{less-is, square-fits, square-is}
 use Rattle.pattern.specs.Figures.{stepOf, levelOf, standsOut, deviation, maxOf, figuresOf}
 
--- the code's square of the difference of two totals
-module _ (a b : ℕ) (p : a ≤ 52416000) (q : b ≤ 52416000) where
-  pub step-le : apart a b * apart a b ≤ 2747437056000000
-  step-le = times-le (apart a b) (apart a b) 52416000 52416000 (omega arith) (omega arith)
-
-  pub step-fits : SFits w64 (toZ w64 (ofZ w64 (toZ w64 a -ℤ toZ w64 b)) *ℤ toZ w64 (ofZ w64 (toZ w64 a -ℤ toZ w64 b)))
-  step-fits = square-fits (less-is a b (omega arith) (omega arith)) (omega (arith, step-le))
-
-  pub step-is : toZ w64 (ofZ w64 (toZ w64 (ofZ w64 (toZ w64 a -ℤ toZ w64 b)) *ℤ toZ w64 (ofZ w64 (toZ w64 a -ℤ toZ w64 b)))) ≡ pos (apart a b * apart a b)
-  step-is = square-is (less-is a b (omega arith) (omega arith)) (omega (arith, step-le))
+-- the square of the step between two totals fits
+pub step-le : (a b : ℕ) → a ≤ 52416000 → b ≤ 52416000 → apart a b * apart a b ≤ 2747437056000000
+step-le a b p q = times-le (apart a b) (apart a b) 52416000 52416000 (omega arith) (omega arith)
 
 module _ (C : ℕ → ℕ) where
   -- five totals, one after the other

@@ -123,8 +123,8 @@ fn step(here: u64, next: u64) -> u64
     requires { ⌜ (here ≤ 52416000) × (next ≤ 52416000) ⌝ }
     ensures { λ r. ⌜ (r ≡ apart here next * apart here next) × (r ≤ 2747437056000000) ⌝ }
 {
-    let d = here as i64 - next as i64;
-    (d * d) as u64
+    let d = exact::apart(here, next);
+    d * d
 }
 
 // The sum of the squared steps from each total to the next.

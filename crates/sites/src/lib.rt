@@ -3,7 +3,6 @@ ghost use mathlib.Core.Path.{_≡_};
 ghost use mathlib.Core.Bool.{false};
 ghost use Prim.Native.Nat.{_-_, _*_, _<_, _≤_};
 ghost use lib.ListN.{length};
-ghost use Rattle.laws.specs.Signed.{apart};
 ghost use Rattle.laws.specs.Table.{tabulate};
 ghost use Rattle.window.specs.Shape.{badSides, sitesOf};
 ghost use Rattle.window.specs.View.{seen, one};
@@ -84,18 +83,12 @@ fn used_threshold(threshold: u64) -> u64
     }
 }
 
-fn gap(a: u64, b: u64) -> u64
-    ensures { λ r. ⌜ r ≡ apart a b ⌝ }
-{
-    if a < b { b - a } else { a - b }
-}
-
 // A sample against the mean of `count` samples, by whole products.
 fn is_far(t: u64, sample: u16, count: u64, total: u64) -> bool
     requires { ⌜ (t ≤ 4095) × (count ≤ 4096) ⌝ }
     ensures { λ r. ⌜ r ≡ far t sample count total ⌝ }
 {
-    t * count <= gap(sample as u64 * count, total)
+    t * count <= exact::apart(sample as u64 * count, total)
 }
 
 // 1 where a surveyed site is newly found, else 0.

@@ -13,7 +13,7 @@ use Rattle.lines.proofs.stands_out.Tie as tie
 returns : tie.Need-returns
 unfolding defective
 returns c = let a = c .before .args in
-    ap (λ (d : ℕ). ltb 0 (a .c) && (ltb 0 (a .count) && ltb (5 * a .c * a .count) (2 * d))) (c .distance .ensures)
+    ap (λ (d : ℕ). ltb 0 (a .c) && (ltb 0 (a .count) && ltb (5 * a .c * a .count) (2 * d))) (c .apart .ensures)
 
 own : (c : tie.Start) → c .args .s * c .args .count ≤ 268431360 * 4294901760
 own c = times-le (c .args .s) (c .args .count) 268431360 4294901760 (omega arith) (omega arith)
@@ -27,19 +27,19 @@ mul-far c = search needs
 mul-far-2 : tie.Need-mul-far-2
 mul-far-2 c = omega (arith, times-le (5 * c .args .c) (c .args .count) 1342156800 4294901760 (omega arith) (omega arith))
 
-mul-distance : tie.Need-mul-distance
-mul-distance c = omega (arith, own c)
+mul-apart : tie.Need-mul-apart
+mul-apart c = omega (arith, own c)
 
-mul-distance-2 : tie.Need-mul-distance-2
-mul-distance-2 c = omega (arith, around c)
+mul-apart-2 : tie.Need-mul-apart-2
+mul-apart-2 c = omega (arith, around c)
 
-distance-requires : tie.Need-distance-requires
-distance-requires c κs = search needs
+apart-requires : tie.Need-apart-requires
+apart-requires c κs = search needs
 
 mul-far-3 : tie.Need-mul-far-3
-mul-far-3 c = omega (arith, own (c .before), around (c .before), c .distance .ensures)
+mul-far-3 c = omega (arith, own (c .before), around (c .before), c .apart .ensures)
 
 pub stands-out-spec : {M : Type 1} → statement M
 stands-out-spec =
     tie.close
-    (tie.spec mul-far mul-far-2 mul-distance mul-distance-2 distance-requires mul-far-3 returns)
+    (tie.spec mul-far mul-far-2 mul-apart mul-apart-2 apart-requires mul-far-3 returns)

@@ -10,14 +10,14 @@ use Rattle.pair.proofs.spread_of.Tie as tie
 product : (c : tie.After-sums) → c .sums .result .n * c .sums .result .squares < 2 ^ 64
 product c = product-fits _ _ (c .sums .ensures .1 .0) (c .sums .ensures .1 .1)
 
-square : (c : tie.After-sums-apart) → c .sums-apart .result * c .sums-apart .result ≤ c .before .sums .result .n * c .before .sums .result .squares
-square c = rw (c .sums-apart .ensures) (enough _ _ _ _ _ (c .before .sums .ensures .0))
+square : (c : tie.After-apart) → c .apart .result * c .apart .result ≤ c .before .sums .result .n * c .before .sums .result .squares
+square c = rw (c .apart .ensures) (enough _ _ _ _ _ (c .before .sums .ensures .0))
 
 sums-requires : tie.Need-sums-requires
 sums-requires c κs = search needs
 
-sums-apart-requires : tie.Need-sums-apart-requires
-sums-apart-requires c κs = search needs
+apart-requires : tie.Need-apart-requires
+apart-requires c κs = search needs
 
 mul-t6 : tie.Need-mul-t6
 mul-t6 c = omega (arith, product (c .before .before))
@@ -29,7 +29,7 @@ sub-t8 : tie.Need-sub-t8
 sub-t8 c = square (c .before)
 
 returns : tie.Need-returns
-returns c = spread-from _ _ _ _ _ (c .before .before .sums .ensures .0) _ (c .before .sums-apart .ensures)
+returns c = spread-from _ _ _ _ _ (c .before .before .sums .ensures .0) _ (c .before .apart .ensures)
 
 pub spread-of-spec : {M : Type 1} → statement M
-spread-of-spec = tie.close (tie.spec sums-requires sums-apart-requires mul-t6 mul-t7 sub-t8 returns)
+spread-of-spec = tie.close (tie.spec sums-requires apart-requires mul-t6 mul-t7 sub-t8 returns)

@@ -9,15 +9,15 @@ use Rattle.sites.proofs.is_far.Tie as tie
 mul-result : tie.Need-mul-result
 mul-result c = omega (arith, times-le (c .args .t) (c .args .count) 4095 4096 (c .pre .0) (c .pre .1))
 
-mul-gap : tie.Need-mul-gap
-mul-gap c = omega (arith, times-le (c .args .sample) (c .args .count) 65535 4096 (omega arith) (c .pre .1))
+mul-apart : tie.Need-mul-apart
+mul-apart c = omega (arith, times-le (c .args .sample) (c .args .count) 65535 4096 (omega arith) (c .pre .1))
 
-gap-requires : tie.Need-gap-requires
-gap-requires c κs = search needs
+apart-requires : tie.Need-apart-requires
+apart-requires c κs = search needs
 
 returns : tie.Need-returns
 unfolding far
-returns c = rw (← c .gap .ensures)
+returns c = rw (← c .apart .ensures)
 
 pub is-far-spec : {M : Type 1} → statement M
-is-far-spec = tie.close (tie.spec mul-result mul-gap gap-requires returns)
+is-far-spec = tie.close (tie.spec mul-result mul-apart apart-requires returns)
