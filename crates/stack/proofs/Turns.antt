@@ -1,17 +1,16 @@
 -- What one turn of each loop does, over plain values.
 use Prim.Native.Nat.{ℕ, _+_, _-_, _*_, _^_, _≤_, _<_}
-use mathlib.Core.Bool.{Bool, true, false, _&&_}
+use mathlib.Core.Bool.{Bool, true, false, _&&_, _||_}
 use mathlib.Core.Logic.{⊎-elim}
 use mathlib.Core.List.{List}
 use mathlib.Core.Path.{_≡_, sym, ap, ap₂, _∙_}
 use native.Mathlib.Nat.{le-refl}
 use native.Mathlib.Omega.{arith}
-use lib.Dec.{ltb}
 use lib.ListN.{length, getD, set, List·getD-eq-default}
 use borrow.Author.Tests.{eqb-true, eqb-false}
-use Rattle.laws.specs.First.{firstTo}
 use Rattle.laws.specs.Table.{tabulate}
 use Rattle.laws.proofs.Cases.{lt-or-ge, true-or-false}
+use Rattle.laws.proofs.Firsts.{some-none, some-more}
 use Rattle.laws.proofs.Sums.{sum-none, sum-more}
 use Rattle.laws.proofs.Tables.{Filling, filling-rest, filling-more, length-tabulate, getD-tabulate}
 use Rattle.window.specs.View.{surveyed, seenAt, seen}
@@ -32,11 +31,19 @@ module _ (view : ℕ → ℕ) {d l : List ℕ} {i v : ℕ} (so-far : Filling (λ
   pub one-added : i < length l → Filling (λ (k : ℕ). getD d k 0 + view k) d (set l i (getD l i 0 + v)) (i + 1)
   one-added h = filling-more (getD l i 0 + v) so-far h stored
 
--- what is asked of two sums as they are seen is what is asked of their site
-pub asked-here : (full k : ℕ) (mask sums squares : List ℕ) (i s q : ℕ) (b : Bool)
-    → b ≡ impossible full k s q → s ≡ seenAt (getD mask i 0) (getD sums i 0) → q ≡ seenAt (getD mask i 0) (getD squares i 0)
-    → impossibleAt full k (seen mask sums) (seen mask squares) i ≡ b
-asked-here full k mask sums squares i s q b e p r = sym (e ∙ ap₂ (impossible full k) (p ∙ sym (seen-is mask sums i)) (r ∙ sym (seen-is mask squares i)))
+-- one turn of 11: what is asked of two sums as they are seen is what is asked of their site
+pub asked-none : (full k : ℕ) (s q : ℕ → ℕ) → false ≡ impossibleIn 0 full k s q
+unfolding impossibleIn
+asked-none full k s q = sym (some-none _)
+
+pub asked-more : (full k : ℕ) (mask sums squares : List ℕ) (i s q : ℕ) (found here : Bool)
+    → found ≡ impossibleIn i full k (seen mask sums) (seen mask squares)
+    → here ≡ impossible full k s q → s ≡ seenAt (getD mask i 0) (getD sums i 0) → q ≡ seenAt (getD mask i 0) (getD squares i 0)
+    → (found || here) ≡ impossibleIn (i + 1) full k (seen mask sums) (seen mask squares)
+unfolding impossibleIn
+asked-more full k mask sums squares i s q found here f e p r =
+    ap₂ _||_ f (e ∙ ap₂ (impossible full k) (p ∙ sym (seen-is mask sums i)) (r ∙ sym (seen-is mask squares i)))
+    ∙ some-more (impossibleAt full k (seen mask sums) (seen mask squares)) i
 
 -- one turn of the numerator
 pub spread-none : (k : ℕ) (s q : ℕ → ℕ) → 0 ≡ spread 0 k s q
@@ -53,13 +60,12 @@ spread-more k mask sums squares i total s q e t x p r =
     (sum-more i (λ (j : ℕ). k * seen mask squares j - seen mask sums j * seen mask sums j))
 
 module _ (full k : ℕ) (mask sums squares : List ℕ) where
-  -- 11 is asked of sums that can be read, at the first site that it finds
-  pub asked-all : (at : ℕ) → readable full k (length mask) (length sums) (length squares) ≡ true
-      → at ≡ firstTo (length mask) (impossibleAt full k (seen mask sums) (seen mask squares))
-      → ltb at (length mask)
+  -- 11 is asked of sums that can be read
+  pub asked-all : (found : Bool) → readable full k (length mask) (length sums) (length squares) ≡ true
+      → found ≡ impossibleIn (length mask) full k (seen mask sums) (seen mask squares)
+      → found
       ≡ (readable full k (length mask) (length sums) (length squares) && impossibleIn (length mask) full k (seen mask sums) (seen mask squares))
-  unfolding impossibleIn
-  asked-all at e f = rw (e, f)
+  asked-all found e f = rw e f
 
   -- and not of others
   pub not-asked : readable full k (length mask) (length sums) (length squares) ≡ false

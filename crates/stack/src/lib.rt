@@ -3,12 +3,11 @@ ghost use mathlib.Core.Path.{_≡_};
 ghost use mathlib.Core.Bool.{true, _&&_, cond};
 ghost use Prim.Native.Nat.{ℕ, _+_, _-_, _*_, _^_, _≤_, _<_};
 ghost use lib.ListN.{length, getD};
-ghost use Rattle.laws.specs.First.{firstTo};
 ghost use Rattle.laws.specs.Sum.{sumTo};
 ghost use Rattle.window.specs.Judge.{walked};
 ghost use Rattle.window.specs.View.{seenAt, seen, one};
 ghost use Rattle.window.specs.Verdict.{refuseIf};
-ghost use Rattle.stack.specs.Sums.{impossible, impossibleAt, impossibleIn, squared, added, spread};
+ghost use Rattle.stack.specs.Sums.{impossible, impossibleIn, squared, added, spread};
 ghost use Rattle.stack.specs.Walk.{readable};
 ghost use Rattle.stack.specs.Variance.{tooFew, varianceVerdict, varianceAnswer, variancePaperOf, variancePaper};
 ghost use Rattle.stack.specs.Add.{addVerdict, addAnswer, addPaperOf, addPaper, addSums, addSquares};
@@ -69,30 +68,24 @@ fn impossible(full_scale: u64, frames: u64, sum: u32, square: u32) -> bool
     frames * q < s * s
 }
 
-// The first site whose sums cannot come from so many frames, or the number of sites.
-fn first_impossible(
+// Whether some site's sums cannot come from so many frames.
+fn some_impossible(
     full_scale: u64,
     frames: u64,
     mask: &[u8],
     sums: &[u32],
     squares: &[u32],
-) -> usize
+) -> bool
     requires { ⌜ readable «full_scale» frames (length (now mask)) (length (now sums)) (length (now squares)) ≡ true ⌝ }
-    ensures { λ r. ⌜ r ≡ firstTo (length (now (mask .entry))) (impossibleAt «full_scale» frames (seen (now (mask .entry)) (now (sums .entry))) (seen (now (mask .entry)) (now (squares .entry)))) ⌝ }
+    ensures { λ r. ⌜ r ≡ impossibleIn (length (now (mask .entry))) «full_scale» frames (seen (now (mask .entry)) (now (sums .entry))) (seen (now (mask .entry)) (now (squares .entry))) ⌝ }
 {
-    let mut at: usize = 0;
-    while at < mask.len() {
-        if impossible(
-            full_scale,
-            frames,
-            sum_at(mask[at], sums[at]),
-            sum_at(mask[at], squares[at]),
-        ) {
-            return at;
-        }
-        at += 1;
+    let mut found = false;
+    for i in 0..mask.len() {
+        let sum = sum_at(mask[i], sums[i]);
+        let square = sum_at(mask[i], squares[i]);
+        found = found | impossible(full_scale, frames, sum, square);
     }
-    at
+    found
 }
 
 // Refusal 11, of sums that can be read; any others are not walked.
@@ -101,8 +94,8 @@ fn possible(full_scale: u64, frames: u64, mask: &[u8], sums: &[u32], squares: &[
         && impossibleIn (length (now (mask .entry))) «full_scale» frames (seen (now (mask .entry)) (now (sums .entry))) (seen (now (mask .entry)) (now (squares .entry)))) ⌝ }
 {
     if readable(full_scale, frames, mask.len(), sums.len(), squares.len()) {
-        let at = first_impossible(full_scale, frames, mask, sums, squares);
-        return window::refuse_if(11, 0, at < mask.len());
+        let found = some_impossible(full_scale, frames, mask, sums, squares);
+        return window::refuse_if(11, 0, found);
     }
     Verdict::Clear
 }
@@ -235,9 +228,6 @@ fn spread(full_scale: u64, frames: u64, mask: &[u8], sums: &[u32], squares: &[u3
     0
 }
 
-// 2 ^ 53: whole numbers below it have an exact f64.
-const EXACT: u64 = 0x20_0000_0000_0000;
-
 // Refusals 1 to 5, 7, 11 and 14 of a stack with this many surveyed sites and this numerator.
 fn judge_stack(
     width: usize,
@@ -264,7 +254,7 @@ fn judge_stack(
     let codes = window::codes(width, height, mask);
     let few = window::refuse_if(7, 0, too_few(count, frames));
     let odd = possible(full_scale, frames, mask, sums, squares);
-    let inexact = window::refuse_if(14, 0, EXACT <= numerator);
+    let inexact = window::refuse_if(14, 0, exact::LOSSLESS <= numerator);
     let sites = window::then(codes, window::then(few, window::then(odd, inexact)));
     let stack_long = window::then(sums_long, window::then(squares_long, sites));
     window::then(

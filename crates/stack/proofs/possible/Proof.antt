@@ -9,8 +9,8 @@ use Rattle.stack.proofs.possible.Tie as tie
 readable-requires : tie.Need-readable-requires
 readable-requires c κs = search needs
 
-first-impossible-requires : tie.Need-first-impossible-requires
-first-impossible-requires c κs = sym (c .before .readable .ensures) ∙ c .if1 .taken
+some-impossible-requires : tie.Need-some-impossible-requires
+some-impossible-requires c κs = sym (c .before .readable .ensures) ∙ c .if1 .taken
 
 refuse-if-requires : tie.Need-refuse-if-requires
 refuse-if-requires c κs = search needs
@@ -18,7 +18,7 @@ refuse-if-requires c κs = search needs
 returns : tie.Need-returns
 returns c = let args = c .before .before .before .before .before .before .before .args in
     c .refuse-if .ensures
-    ∙ ap (refuseIf 11 0) (asked-all (args .full-scale) (args .frames) (args .mask .now) (args .sums .now) (args .squares .now) _ (sym (c .before .before .before .readable .ensures) ∙ c .before .before .if1 .taken) (c .before .first-impossible .ensures))
+    ∙ ap (refuseIf 11 0) (asked-all (args .full-scale) (args .frames) (args .mask .now) (args .sums .now) (args .squares .now) _ (sym (c .before .before .before .readable .ensures) ∙ c .before .before .if1 .taken) (c .before .some-impossible .ensures))
 
 returns-2 : tie.Need-returns-2
 returns-2 c = let args = c .before .before .before .before .before .args in
@@ -27,4 +27,4 @@ returns-2 c = let args = c .before .before .before .before .before .args in
 pub possible-spec : {M : Type 1} → statement M
 possible-spec =
     tie.close
-    (tie.spec readable-requires first-impossible-requires refuse-if-requires returns returns-2)
+    (tie.spec readable-requires some-impossible-requires refuse-if-requires returns returns-2)
