@@ -12,7 +12,7 @@ use Rattle.window.specs.Verdict.{refusal, _⨟_, refuseIf, numberOf, placeOf}
 use Rattle.window.specs.declared.Verdict.{Verdict}
 use Rattle.window.specs.declared.Verdict.the-variants as verdict
 use Rattle.window.proofs.Verdicts.{Tabled, Refuses, refuses}
-use Rattle.raw.specs.Packed.{sampleAt}
+use Rattle.raw.specs.Packed.{sample10}
 use Rattle.raw.specs.Unpack.{unpackVerdict, answered, unpackAnswer, paperOf, unpackPaper, unpackBuffer}
 use Rattle.raw.specs.declared.Unpacked.the-variants.{Done}
 use Rattle.raw.proofs.Samples.{sample-below, sample-occurs}
@@ -46,9 +46,9 @@ module _ (w h : ℕ) (bytes out : List ℕ) where
   pub below : ((k : ℕ) → getD bytes k 0 < 256) → unpackAnswer w h (length bytes) (length out) ≡ Done
       → (i : ℕ) → i < length out → getD (unpackBuffer w h bytes out) i 0 < 1024
   below small done i inside =
-      let written : tabulate (length out) (sampleAt 2 4 bytes) ≡ unpackBuffer w h bytes out =
+      let written : tabulate (length out) (sample10 bytes) ≡ unpackBuffer w h bytes out =
       accepted-is w h bytes out (done-clear w h (length bytes) (length out) done) .1 .1 in
-      rw (← written, getD-tabulate (length out) (sampleAt 2 4 bytes) i inside) (sample-below 2 4 bytes small i)
+      rw (← written, getD-tabulate (length out) (sample10 bytes) i inside) (sample-below 2 4 bytes small i)
 
 -- and each of the 2^10 values occurs: as the first sample of five bytes
 pub occurs : (v : ℕ) → v < 1024

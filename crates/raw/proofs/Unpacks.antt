@@ -15,7 +15,7 @@ use Rattle.window.specs.declared.Verdict.the-variants as verdict
 use Rattle.window.proofs.Sides.{Sides, sides}
 use Rattle.window.proofs.Verdicts.{Test, Tabled, test, tabled, passed-head, passed-tail}
 use Rattle.window.proofs.Chains.{same-length}
-use Rattle.raw.specs.Packed.{sampleAt, packedLength}
+use Rattle.raw.specs.Packed.{sample10, length10}
 use Rattle.raw.specs.Unpack.{unpackVerdict, answered, unpackAnswer, unpackPaper, unpackBuffer}
 use Rattle.raw.specs.declared.Unpacked.the-variants.{Done, Refused}
 
@@ -40,7 +40,7 @@ module _ (w h bytes out : ℕ) where
   abbrev pub tests : List Test
   tests =
       test 1 0 (badSides w h)
-      ∷ test 4 0 (otherThan (packedLength 4 (sitesOf w h)) bytes)
+      ∷ test 4 0 (otherThan (length10 (sitesOf w h)) bytes)
       ∷ test 4 0 (otherThan (sitesOf w h) out)
       ∷ []
 
@@ -53,7 +53,7 @@ module _ (w h bytes out : ℕ) where
       let n = sitesOf w h in
       let p = table .clear e in
       let s = sides w h (passed-head p) in
-      let b = same-length (packedLength 4 n) bytes (passed-head (passed-tail p)) in
+      let b = same-length (length10 n) bytes (passed-head (passed-tail p)) in
       let o = same-length n out (passed-head (passed-tail (passed-tail p))) in
       let whole = five-fourths n (h / 2 * (w / 2)) bytes (s .sites ∙ quarters s) b in
       record { legal = s; samples = o ∙ s .sites; groups = omega (arith, whole, o) }
@@ -75,6 +75,6 @@ module _ (w h : ℕ) (bytes out : List ℕ) where
 
   pub accepted-is : unpackVerdict w h (length bytes) (length out) ≡ verdict.Clear
       → (Done ≡ unpackAnswer w h (length bytes) (length out))
-      × ((refusal 0 0 ≡ unpackPaper w h (length bytes) (length out)) × (tabulate (length out) (sampleAt 2 4 bytes) ≡ unpackBuffer w h bytes out))
+      × ((refusal 0 0 ≡ unpackPaper w h (length bytes) (length out)) × (tabulate (length out) (sample10 bytes) ≡ unpackBuffer w h bytes out))
   unfolding unpackAnswer unpackPaper unpackBuffer
   accepted-is e = rw e (refl, (refl, refl))

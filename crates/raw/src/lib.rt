@@ -3,7 +3,7 @@ ghost use mathlib.Core.Path.{_≡_};
 ghost use Prim.Native.Nat.{_*_, _<_};
 ghost use lib.ListN.{length};
 ghost use Rattle.laws.specs.Table.{tabulate};
-ghost use Rattle.raw.specs.Packed.{joined, sampleAt};
+ghost use Rattle.raw.specs.Packed.{joined, sample10};
 ghost use Rattle.raw.specs.Unpack.{unpackVerdict, unpackAnswer, paperOf, unpackPaper, unpackBuffer};
 use window::Refusal;
 use window::Verdict;
@@ -35,7 +35,7 @@ fn join10(upper: u8, last: u8, j: u8) -> u16
 // Every sample, four to a group of five bytes.
 fn fill(bytes: &[u8], out: &mut [u16])
     requires { ⌜ 4 * length (now bytes) ≡ 5 * length (now out) ⌝ }
-    ensures { λ r. ⌜ now (out .exit) ≡ tabulate (length (now (out .entry))) (sampleAt 2 4 (now (bytes .entry))) ⌝ }
+    ensures { λ r. ⌜ now (out .exit) ≡ tabulate (length (now (out .entry))) (sample10 (now (bytes .entry))) ⌝ }
 {
     for group in 0..out.len() / 4 {
         let i = 4 * group;

@@ -11,13 +11,13 @@ use Rattle.window.specs.Shape.{badSides, sitesOf}
 use Rattle.window.specs.declared.Verdict.the-variants.{Clear}
 use Rattle.window.proofs.Chains.{right-length}
 use Rattle.window.proofs.Verdicts.{end, past}
-use Rattle.raw.specs.Packed.{sampleAt, packedLength}
+use Rattle.raw.specs.Packed.{sample10, length10}
 use Rattle.raw.specs.Unpack.{unpackVerdict, unpackBuffer}
 use Rattle.raw.proofs.Unpacks.{table, accepted-is}
 use Rattle.stream.specs.Stream.{unpacked, sitesIn, packedIn, maskOf, firstOf, secondOf}
 
 -- unpacking refuses nothing of it
-pub unpacks : (w h long : ℕ) → badSides w h ≡ false → long ≡ packedLength 4 (sitesOf w h)
+pub unpacks : (w h long : ℕ) → badSides w h ≡ false → long ≡ length10 (sitesOf w h)
     → unpackVerdict w h long (sitesOf w h) ≡ Clear
 unpacks w h long even e =
     table w h long (sitesOf w h) .passed (past even (past (right-length _ long e) (past (right-length _ (sitesOf w h) refl) end)))
@@ -36,7 +36,7 @@ pub front : (w h n : ℕ) (body written array : List ℕ) → n ≡ sitesOf w h 
 front w h n body written array e few long clear p =
     let room : length (take n array) ≡ n = length-take-le n array (omega arith) in
     let whole : written ≡ unpacked (sitesOf w h) body = p ∙ left w h body (take n array) clear (room ∙ e) in
-    let size : length written ≡ sitesOf w h = ap length whole ∙ length-tabulate (sitesOf w h) (sampleAt 2 4 body) in
+    let size : length written ≡ sitesOf w h = ap length whole ∙ length-tabulate (sitesOf w h) (sample10 body) in
     (take-at written (drop n array) (sitesOf w h) size ∙ whole, length-front array written n (size ∙ sym e ∙ sym room) ∙ long)
 
 pub front-is : (n m : ℕ) (array frame : List ℕ) → n ≡ m → take m array ≡ frame → take n array ≡ frame
@@ -47,13 +47,13 @@ part-is : (s : List ℕ) (at n : ℕ) → take (at + n - at) (drop at s) ≡ tak
 part-is s at n = let e : at + n - at ≡ n = omega arith in rw e
 
 -- a part as long as a packed frame can be unpacked
-pub part-unpacks : (s : List ℕ) (w h n at : ℕ) → badSides w h ≡ false → n ≡ sitesOf w h → at + packedLength 4 n ≤ length s
-    → unpackVerdict w h (length (take (at + packedLength 4 n - at) (drop at s))) (sitesOf w h) ≡ Clear
+pub part-unpacks : (s : List ℕ) (w h n at : ℕ) → badSides w h ≡ false → n ≡ sitesOf w h → at + length10 n ≤ length s
+    → unpackVerdict w h (length (take (at + length10 n - at) (drop at s))) (sitesOf w h) ≡ Clear
 part-unpacks s w h n at even e l =
     unpacks w h _ even
-    (ap length (part-is s at (packedLength 4 n))
+    (ap length (part-is s at (length10 n))
     ∙ simp (length-take, length-drop) (omega arith)
-    ∙ ap (λ (k : ℕ). packedLength 4 k) e)
+    ∙ ap (λ (k : ℕ). length10 k) e)
 
 -- the parts that the job reads
 module _ (s : List ℕ) (n : ℕ) (e : n ≡ sitesIn s) where
@@ -61,14 +61,14 @@ module _ (s : List ℕ) (n : ℕ) (e : n ≡ sitesIn s) where
   mask-is = part-is s 23 n ∙ rw e
 
   frame-is : (k at : ℕ) → k ≡ sitesIn s
-      → unpacked k (take (at + packedLength 4 n - at) (drop at s)) ≡ unpacked (sitesIn s) (take (packedIn s) (drop at s))
-  frame-is k at f = rw (part-is s at (packedLength 4 n), e, f)
+      → unpacked k (take (at + length10 n - at) (drop at s)) ≡ unpacked (sitesIn s) (take (packedIn s) (drop at s))
+  frame-is k at f = rw (part-is s at (length10 n), e, f)
 
   pub first-is : (k : ℕ) → k ≡ sitesIn s
-      → unpacked k (take (23 + n + 3 + packedLength 4 n - (23 + n + 3)) (drop (23 + n + 3) s)) ≡ firstOf s
+      → unpacked k (take (23 + n + 3 + length10 n - (23 + n + 3)) (drop (23 + n + 3) s)) ≡ firstOf s
   first-is k f = frame-is k (23 + n + 3) f ∙ rw e
 
   pub second-is : (k : ℕ) → k ≡ sitesIn s
-      → unpacked k (take (23 + n + 3 + packedLength 4 n + 3 + packedLength 4 n - (23 + n + 3 + packedLength 4 n + 3)) (drop (23 + n + 3 + packedLength 4 n + 3) s))
+      → unpacked k (take (23 + n + 3 + length10 n + 3 + length10 n - (23 + n + 3 + length10 n + 3)) (drop (23 + n + 3 + length10 n + 3) s))
       ≡ secondOf s
-  second-is k f = frame-is k (23 + n + 3 + packedLength 4 n + 3) f ∙ rw e
+  second-is k f = frame-is k (23 + n + 3 + length10 n + 3) f ∙ rw e

@@ -13,7 +13,7 @@ use Rattle.window.specs.declared.Verdict.{Verdict}
 use Rattle.window.specs.declared.Verdict.the-variants as verdict
 use Rattle.window.proofs.Verdicts.{Test, Tabled, Refuses, refuses, inTurn, tabled, tabled-then, then-same, then-clear}
 use Rattle.window.proofs.Views.{Agree}
-use Rattle.raw.specs.Packed.{sampleAt}
+use Rattle.raw.specs.Packed.{sample10}
 use Rattle.raw.specs.Unpack.{unpackBuffer}
 use Rattle.pair.specs.Pair.{spreadOf, pairVerdict}
 use Rattle.pair.specs.Answers.{VariancePaper, NoisePaper, noisePaper}
@@ -81,8 +81,8 @@ module _ (s : List ℕ) where
           let x = faultless s (widthOf s) (heightOf s) clear in
           left-is (widthOf s) (heightOf s) (fullOf s) (blackOf s) (maskOf s) (firstOf s) (secondOf s) (x .even)
           (body-long s 20 (sitesIn s) (omega (arith, x .long)))
-          (length-tabulate (sitesIn s) (sampleAt 2 4 (bodyAt s (firstField (sitesIn s)) (packedIn s))))
-          (length-tabulate (sitesIn s) (sampleAt 2 4 (bodyAt s (secondField (sitesIn s)) (packedIn s))))
+          (length-tabulate (sitesIn s) (sample10 (bodyAt s (firstField (sitesIn s)) (packedIn s))))
+          (length-tabulate (sitesIn s) (sample10 (bodyAt s (secondField (sitesIn s)) (packedIn s))))
 
   -- refused: where the number is not 0 every other number but the place is 0, and where it is 0 so is the place
   pub refused : Refuses (jobPaper s .number) (jobPaper s .place)

@@ -14,13 +14,13 @@ use Rattle.window.specs.declared.Verdict.{Verdict}
 use Rattle.window.specs.declared.Verdict.the-variants.{Clear}
 use Rattle.window.proofs.Sides.{Sides, sides}
 use Rattle.window.proofs.Verdicts.{then-clear, unless}
-use Rattle.raw.specs.Packed.{packedLength}
+use Rattle.raw.specs.Packed.{length10}
 use Rattle.stream.specs.Fields.{Field, past, fieldAt, fieldsAt, pastAll, extraAt}
 use Rattle.stream.specs.Stream.{sideFields, bodyFields, wideSides, faultsOf, widthOf, heightOf, streamVerdict}
 
 -- where the stream of n sites ends
 abbrev pub streamEnd : ℕ → ℕ
-streamEnd n = 32 + n + 2 * packedLength 4 n
+streamEnd n = 32 + n + 2 * length10 n
 
 pub end-is : (n : ℕ) → streamEnd n ≡ pastAll 10 (bodyFields n)
 unfolding pastAll

@@ -5,13 +5,13 @@ use native.Mathlib.Omega.{arith}
 use lib.ListN.{length, length-set}
 use borrow.Author.Needs.{needs}
 use Rattle.raw.proofs.Samples.{fours, four, in-group}
-use Rattle.raw.specs.Packed.{sampleAt}
+use Rattle.raw.specs.Packed.{sample10}
 use Rattle.laws.proofs.Tables.{Filling, filling-none, filling-done}
 use Rattle.raw.proofs.fill.Statement.{statement}
 use Rattle.raw.proofs.fill.Tie as tie
 
 abbrev Inv-loop : tie.InvT-loop
-Inv-loop bytes out₀ group₀ group-end out group = (group ≤ group-end) × (group-end ≡ length out₀ / 4) × Filling (sampleAt 2 4 bytes) out₀ out (4 * group)
+Inv-loop bytes out₀ group₀ group-end out group = (group ≤ group-end) × (group-end ≡ length out₀ / 4) × Filling (sample10 bytes) out₀ out (4 * group)
 
 abbrev μ-loop : tie.MeasureT-loop
 μ-loop bytes out₀ group₀ group-end out group = group-end - group
