@@ -23,19 +23,19 @@ pub enum Colour {
 }
 
 // The plane that has each colour.
-pub struct Mosaic {
-    pub r: usize,
-    pub gr: usize,
-    pub b: usize,
-    pub gb: usize,
+struct Mosaic {
+    r: usize,
+    gr: usize,
+    b: usize,
+    gb: usize,
 }
 
 // What is seen in the centre of each colour's plane.
-pub struct Centres {
-    pub r: Sums,
-    pub gr: Sums,
-    pub b: Sums,
-    pub gb: Sums,
+struct Centres {
+    r: Sums,
+    gr: Sums,
+    b: Sums,
+    gb: Sums,
 }
 
 fn mosaic_of(bayer_order: u64) -> Mosaic
