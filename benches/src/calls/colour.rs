@@ -62,7 +62,7 @@ pub fn contest() -> Contest<Input, Output> {
             denominators: [77; 3],
         },
         library,
-        plain: vec![("indexed", plain)],
+        plain: vec![("indexed", plain::<false>), ("walk first", plain::<true>)],
     }
 }
 
@@ -108,8 +108,8 @@ fn library(input: &Input, output: &mut Output) {
 }
 
 #[inline(never)]
-fn plain(input: &Input, output: &mut Output) {
-    let (refusal, numerators, denominators) = match ratios(input) {
+fn plain<const WALK: bool>(input: &Input, output: &mut Output) {
+    let (refusal, numerators, denominators) = match ratios::<WALK>(input) {
         Ok((numerators, denominators)) => (ACCEPTED, numerators, denominators),
         Err(refusal) => (refusal, [0; 3], [0; 3]),
     };
@@ -121,7 +121,7 @@ fn plain(input: &Input, output: &mut Output) {
     };
 }
 
-fn ratios(input: &Input) -> Result<([i64; 3], [u64; 3]), Refusal> {
+fn ratios<const WALK: bool>(input: &Input) -> Result<([i64; 3], [u64; 3]), Refusal> {
     let (mask, frame) = (&input.mask[..], &input.frame[..]);
     let other = input.black_level > input.full_scale || input.bayer_order > 3;
     let lengths = [mask.len(), frame.len()];
@@ -132,8 +132,8 @@ fn ratios(input: &Input) -> Result<([i64; 3], [u64; 3]), Refusal> {
         other,
         &lengths,
     ))?;
-    accepted(codes(mask))?;
-    accepted(samples(input.full_scale, mask, frame))?;
+    accepted(codes::<WALK>(mask))?;
+    accepted(samples::<WALK>(input.full_scale, mask, frame))?;
     if input.width < 64 || input.height < 48 {
         return Err((9, 0));
     }

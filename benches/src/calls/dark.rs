@@ -50,7 +50,7 @@ pub fn contest() -> Contest<Input, Output> {
             denominator: 77,
         },
         library,
-        plain: vec![("indexed", plain)],
+        plain: vec![("indexed", plain::<false>), ("walk first", plain::<true>)],
     }
 }
 
@@ -87,8 +87,8 @@ fn library(input: &Input, output: &mut Output) {
 }
 
 #[inline(never)]
-fn plain(input: &Input, output: &mut Output) {
-    let (refusal, numerator, denominator) = match level(input) {
+fn plain<const WALK: bool>(input: &Input, output: &mut Output) {
+    let (refusal, numerator, denominator) = match level::<WALK>(input) {
         Ok((numerator, denominator)) => (ACCEPTED, numerator, denominator),
         Err(refusal) => (refusal, 0, 0),
     };
@@ -100,7 +100,7 @@ fn plain(input: &Input, output: &mut Output) {
     };
 }
 
-fn level(input: &Input) -> Result<(i64, u64), Refusal> {
+fn level<const WALK: bool>(input: &Input) -> Result<(i64, u64), Refusal> {
     let (mask, frame) = (&input.mask[..], &input.frame[..]);
     let other = input.black_level > input.full_scale;
     accepted(shape(
@@ -110,8 +110,8 @@ fn level(input: &Input) -> Result<(i64, u64), Refusal> {
         other,
         &[mask.len(), frame.len()],
     ))?;
-    accepted(codes(mask))?;
-    accepted(samples(input.full_scale, mask, frame))?;
+    accepted(codes::<WALK>(mask))?;
+    accepted(samples::<WALK>(input.full_scale, mask, frame))?;
     let black = input.black_level as i64;
     let (mut sum, mut n) = (0i64, 0u64);
     for i in 0..mask.len() {

@@ -48,7 +48,7 @@ pub fn contest() -> Contest<Input, Output> {
             dark: 77,
         },
         library,
-        plain: vec![("indexed", plain)],
+        plain: vec![("indexed", plain::<false>), ("walk first", plain::<true>)],
     }
 }
 
@@ -101,8 +101,8 @@ fn library(input: &Input, output: &mut Output) {
 }
 
 #[inline(never)]
-fn plain(input: &Input, output: &mut Output) {
-    let (refusal, whole, dark) = match figures(&input.stream) {
+fn plain<const WALK: bool>(input: &Input, output: &mut Output) {
+    let (refusal, whole, dark) = match figures::<WALK>(&input.stream) {
         Ok((whole, dark)) => (ACCEPTED, whole, dark),
         Err(refusal) => (refusal, [0; 4], 0),
     };
@@ -146,7 +146,7 @@ fn unpacked(bytes: &[u8], out: &mut [u16]) {
     }
 }
 
-fn figures(bytes: &[u8]) -> Result<([u64; 4], i64), Refusal> {
+fn figures<const WALK: bool>(bytes: &[u8]) -> Result<([u64; 4], i64), Refusal> {
     let width = word(field(bytes, 0, 1, 2)?, 0);
     let height = word(field(bytes, 5, 2, 2)?, 0);
     if !legal(width) || !legal(height) {
@@ -172,9 +172,9 @@ fn figures(bytes: &[u8]) -> Result<([u64; 4], i64), Refusal> {
     unpacked(first_field, first);
     unpacked(second_field, second);
     accepted(shape(width, height, full_scale, false, &[]))?;
-    accepted(codes(mask))?;
-    accepted(samples(full_scale, mask, first))?;
-    accepted(samples(full_scale, mask, second))?;
+    accepted(codes::<WALK>(mask))?;
+    accepted(samples::<WALK>(full_scale, mask, first))?;
+    accepted(samples::<WALK>(full_scale, mask, second))?;
     let (mut n, mut a, mut b, mut squares) = (0u64, 0u64, 0u64, 0u64);
     for i in 0..mask.len() {
         let surveyed = mask[i] == 0;

@@ -60,7 +60,7 @@ pub fn rows() -> Contest<Input, Output> {
     contest(
         "tip_defective_rows",
         |input, output| library(tip_defective_rows, input, output),
-        |input, output| plain::<true>(input, output),
+        [plain::<true, false>, plain::<true, true>],
     )
 }
 
@@ -68,14 +68,14 @@ pub fn columns() -> Contest<Input, Output> {
     contest(
         "tip_defective_columns",
         |input, output| library(tip_defective_columns, input, output),
-        |input, output| plain::<false>(input, output),
+        [plain::<false, false>, plain::<false, true>],
     )
 }
 
 fn contest(
     call: &'static str,
     library: fn(&Input, &mut Output),
-    plain: fn(&Input, &mut Output),
+    [indexed, walk]: [fn(&Input, &mut Output); 2],
 ) -> Contest<Input, Output> {
     Contest {
         call,
@@ -95,7 +95,7 @@ fn contest(
             marks: vec![7; input.marks_len],
         },
         library,
-        plain: vec![("indexed", plain)],
+        plain: vec![("indexed", indexed), ("walk first", walk)],
     }
 }
 
@@ -131,8 +131,8 @@ fn library(lines: Lines, input: &Input, output: &mut Output) {
 }
 
 #[inline(never)]
-fn plain<const ROWS: bool>(input: &Input, output: &mut Output) {
-    let found = refusal(input, output.marks.len());
+fn plain<const ROWS: bool, const WALK: bool>(input: &Input, output: &mut Output) {
+    let found = refusal::<WALK>(input, output.marks.len());
     (output.number, output.place) = found.err().unwrap_or(ACCEPTED);
     if found.is_err() {
         return;
@@ -147,7 +147,7 @@ fn plain<const ROWS: bool>(input: &Input, output: &mut Output) {
     }
 }
 
-fn refusal(input: &Input, marks: usize) -> Result<(), Refusal> {
+fn refusal<const WALK: bool>(input: &Input, marks: usize) -> Result<(), Refusal> {
     let (mask, frame) = (&input.mask[..], &input.frame[..]);
     let lengths = [mask.len(), frame.len()];
     accepted(shape(
@@ -160,8 +160,8 @@ fn refusal(input: &Input, marks: usize) -> Result<(), Refusal> {
     if marks != 2 * input.side {
         return Err((4, 0));
     }
-    accepted(codes(mask))?;
-    accepted(samples(input.full_scale, mask, frame))?;
+    accepted(codes::<WALK>(mask))?;
+    accepted(samples::<WALK>(input.full_scale, mask, frame))?;
     if input.side < 18 {
         return Err((9, 0));
     }

@@ -53,17 +53,25 @@ pub struct Output {
 }
 
 pub fn variance() -> Contest<Input, Output> {
-    contest("tip_pair_variance", library_variance, plain_variance)
+    contest(
+        "tip_pair_variance",
+        library_variance,
+        [plain_variance::<false>, plain_variance::<true>],
+    )
 }
 
 pub fn noise() -> Contest<Input, Output> {
-    contest("tip_pair_noise", library_noise, plain_noise)
+    contest(
+        "tip_pair_noise",
+        library_noise,
+        [plain_noise::<false>, plain_noise::<true>],
+    )
 }
 
 fn contest(
     call: &'static str,
     library: fn(&Input, &mut Output),
-    plain: fn(&Input, &mut Output),
+    [indexed, walk]: [fn(&Input, &mut Output); 2],
 ) -> Contest<Input, Output> {
     Contest {
         call,
@@ -82,7 +90,7 @@ fn contest(
             figure: 77.0,
         },
         library,
-        plain: vec![("indexed", plain)],
+        plain: vec![("indexed", indexed), ("walk first", walk)],
     }
 }
 
@@ -145,7 +153,7 @@ fn library_noise(input: &Input, output: &mut Output) {
 }
 
 /// n and P, or the refusal. The difference is taken at 16 bits, squared at 32 and chosen after it is computed.
-fn spread(input: &Input) -> Result<(u64, u64), Refusal> {
+fn spread<const WALK: bool>(input: &Input) -> Result<(u64, u64), Refusal> {
     let lengths = [input.mask.len(), input.first.len(), input.second.len()];
     let (mask, first, second) = (&input.mask[..], &input.first[..], &input.second[..]);
     accepted(shape(
@@ -155,9 +163,9 @@ fn spread(input: &Input) -> Result<(u64, u64), Refusal> {
         false,
         &lengths,
     ))?;
-    accepted(codes(mask))?;
-    accepted(samples(input.full_scale, mask, first))?;
-    accepted(samples(input.full_scale, mask, second))?;
+    accepted(codes::<WALK>(mask))?;
+    accepted(samples::<WALK>(input.full_scale, mask, first))?;
+    accepted(samples::<WALK>(input.full_scale, mask, second))?;
     let (mut n, mut a, mut b, mut squares) = (0u64, 0u64, 0u64, 0u64);
     for i in 0..mask.len() {
         let surveyed = mask[i] == 0;
@@ -188,8 +196,8 @@ fn give(output: &mut Output, refusal: Refusal, whole: [u64; 2], figure: f64) {
 }
 
 #[inline(never)]
-fn plain_variance(input: &Input, output: &mut Output) {
-    match spread(input) {
+fn plain_variance<const WALK: bool>(input: &Input, output: &mut Output) {
+    match spread::<WALK>(input) {
         Err(refusal) => give(output, refusal, [0; 2], 0.0),
         Ok((n, p)) => {
             let q = 2 * n * n;
@@ -199,8 +207,8 @@ fn plain_variance(input: &Input, output: &mut Output) {
 }
 
 #[inline(never)]
-fn plain_noise(input: &Input, output: &mut Output) {
-    match spread(input) {
+fn plain_noise<const WALK: bool>(input: &Input, output: &mut Output) {
+    match spread::<WALK>(input) {
         Err(refusal) => give(output, refusal, [0; 2], 0.0),
         Ok((n, p)) => {
             let r = (2048 * p).isqrt();

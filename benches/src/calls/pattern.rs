@@ -1,4 +1,4 @@
-use super::window::{accepted, codes, shape, Refusal, ACCEPTED};
+use super::window::{accepted, codes, shape, some, Refusal, ACCEPTED};
 use crate::contest::Contest;
 
 type Pattern = unsafe extern "C" fn(
@@ -72,7 +72,7 @@ pub fn vertical() -> Contest<Input, Output> {
     contest(
         "tip_pattern_vertical",
         |input, output| library(tip_pattern_vertical, input, output),
-        plain_vertical,
+        [plain_vertical::<false>, plain_vertical::<true>],
     )
 }
 
@@ -80,14 +80,14 @@ pub fn horizontal() -> Contest<Input, Output> {
     contest(
         "tip_pattern_horizontal",
         |input, output| library(tip_pattern_horizontal, input, output),
-        plain_horizontal,
+        [plain_horizontal::<false>, plain_horizontal::<true>],
     )
 }
 
 fn contest(
     call: &'static str,
     library: fn(&Input, &mut Output),
-    plain: fn(&Input, &mut Output),
+    [indexed, walk]: [fn(&Input, &mut Output); 2],
 ) -> Contest<Input, Output> {
     Contest {
         call,
@@ -107,7 +107,7 @@ fn contest(
             max_denominator: 77,
         },
         library,
-        plain: vec![("indexed", plain)],
+        plain: vec![("indexed", indexed), ("walk first", walk)],
     }
 }
 
@@ -149,7 +149,7 @@ fn library(pattern: Pattern, input: &Input, output: &mut Output) {
 }
 
 /// Refusals; `lines` is how many lines the test is over.
-fn refusal(input: &Input, lines: usize) -> Result<(), Refusal> {
+fn refusal<const WALK: bool>(input: &Input, lines: usize) -> Result<(), Refusal> {
     let (mask, sums) = (&input.mask[..], &input.sums[..]);
     let k = input.frames;
     let lengths = [mask.len(), sums.len()];
@@ -160,22 +160,22 @@ fn refusal(input: &Input, lines: usize) -> Result<(), Refusal> {
         k == 0 || k > 100,
         &lengths,
     ))?;
-    accepted(codes(mask))?;
-    if mask.iter().any(|&code| code != 0) {
+    accepted(codes::<WALK>(mask))?;
+    if some::<WALK>(mask.len(), |i| mask[i] != 0) {
         return Err((8, 0));
     }
     if lines < 12 {
         return Err((9, 0));
     }
-    if sums.iter().any(|&sum| sum as u64 > k * input.full_scale) {
+    if some::<WALK>(sums.len(), |i| sums[i] as u64 > k * input.full_scale) {
         return Err((11, 0));
     }
     Ok(())
 }
 
 #[inline(never)]
-fn plain_vertical(input: &Input, output: &mut Output) {
-    let found = refusal(input, input.width);
+fn plain_vertical<const WALK: bool>(input: &Input, output: &mut Output) {
+    let found = refusal::<WALK>(input, input.width);
     let mut totals = [0u64; 128];
     if found.is_ok() {
         for row in input.sums.chunks_exact(input.width) {
@@ -194,8 +194,8 @@ fn plain_vertical(input: &Input, output: &mut Output) {
 }
 
 #[inline(never)]
-fn plain_horizontal(input: &Input, output: &mut Output) {
-    let found = refusal(input, input.height);
+fn plain_horizontal<const WALK: bool>(input: &Input, output: &mut Output) {
+    let found = refusal::<WALK>(input, input.height);
     let mut totals = [0u64; 128];
     if found.is_ok() {
         for (y, row) in input.sums.chunks_exact(input.width).enumerate() {

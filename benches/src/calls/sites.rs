@@ -53,17 +53,25 @@ pub struct Output {
 }
 
 pub fn find_defects() -> Contest<Input, Output> {
-    contest("tip_find_defects", library_find, plain_find)
+    contest(
+        "tip_find_defects",
+        library_find,
+        [plain_find::<false>, plain_find::<true>],
+    )
 }
 
 pub fn repair() -> Contest<Input, Output> {
-    contest("tip_repair", library_repair, plain_repair)
+    contest(
+        "tip_repair",
+        library_repair,
+        [plain_repair::<false>, plain_repair::<true>],
+    )
 }
 
 fn contest(
     call: &'static str,
     library: fn(&Input, &mut Output),
-    plain: fn(&Input, &mut Output),
+    [indexed, walk]: [fn(&Input, &mut Output); 2],
 ) -> Contest<Input, Output> {
     Contest {
         call,
@@ -81,7 +89,7 @@ fn contest(
             out_mask: vec![7; input.mask.len()],
         },
         library,
-        plain: vec![("indexed", plain)],
+        plain: vec![("indexed", indexed), ("walk first", walk)],
     }
 }
 
@@ -142,7 +150,7 @@ fn library_repair(input: &Input, output: &mut Output) {
     };
 }
 
-fn refusal(input: &Input, other: bool, lengths: &[usize]) -> Result<(), Refusal> {
+fn refusal<const WALK: bool>(input: &Input, other: bool, lengths: &[usize]) -> Result<(), Refusal> {
     accepted(shape(
         input.width,
         input.height,
@@ -150,8 +158,8 @@ fn refusal(input: &Input, other: bool, lengths: &[usize]) -> Result<(), Refusal>
         other,
         lengths,
     ))?;
-    accepted(codes(&input.mask))?;
-    accepted(samples(input.full_scale, &input.mask, &input.frame))
+    accepted(codes::<WALK>(&input.mask))?;
+    accepted(samples::<WALK>(input.full_scale, &input.mask, &input.frame))
 }
 
 /// Count and total of the surveyed sites of a site's plane that are at most `reach` rows and columns of it away.
@@ -178,9 +186,9 @@ fn around(input: &Input, y: usize, x: usize, reach: usize) -> (u64, u64) {
 }
 
 #[inline(never)]
-fn plain_find(input: &Input, output: &mut Output) {
+fn plain_find<const WALK: bool>(input: &Input, output: &mut Output) {
     let lengths = [input.mask.len(), input.frame.len(), output.out_mask.len()];
-    let found = refusal(input, input.threshold > 4095, &lengths);
+    let found = refusal::<WALK>(input, input.threshold > 4095, &lengths);
     (output.number, output.place) = found.err().unwrap_or(ACCEPTED);
     output.count = 0;
     if found.is_err() {
@@ -204,14 +212,14 @@ fn plain_find(input: &Input, output: &mut Output) {
 }
 
 #[inline(never)]
-fn plain_repair(input: &Input, output: &mut Output) {
+fn plain_repair<const WALK: bool>(input: &Input, output: &mut Output) {
     let lengths = [
         input.mask.len(),
         input.frame.len(),
         output.out_frame.len(),
         output.out_mask.len(),
     ];
-    let found = refusal(input, false, &lengths);
+    let found = refusal::<WALK>(input, false, &lengths);
     (output.number, output.place) = found.err().unwrap_or(ACCEPTED);
     output.count = 0;
     if found.is_err() {

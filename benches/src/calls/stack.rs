@@ -1,4 +1,4 @@
-use super::window::{accepted, codes, frame, mask, samples, shape, Refusal, ACCEPTED};
+use super::window::{accepted, codes, frame, mask, samples, shape, some, Refusal, ACCEPTED};
 use crate::contest::Contest;
 
 extern "C" {
@@ -88,7 +88,10 @@ pub fn add() -> Contest<Input, Added> {
             squares: input.squares.clone(),
         },
         library: library_add,
-        plain: vec![("indexed", plain_add)],
+        plain: vec![
+            ("indexed", plain_add::<false>),
+            ("walk first", plain_add::<true>),
+        ],
     }
 }
 
@@ -109,7 +112,10 @@ pub fn variance() -> Contest<Input, Varied> {
             variance: 77.0,
         },
         library: library_variance,
-        plain: vec![("indexed", plain_variance)],
+        plain: vec![
+            ("indexed", plain_variance::<false>),
+            ("walk first", plain_variance::<true>),
+        ],
     }
 }
 
@@ -190,28 +196,41 @@ fn library_variance(input: &Input, output: &mut Varied) {
 }
 
 /// Refusal 11: sums that no `frames` frames can have left at a surveyed site.
-fn impossible(frames: u64, full_scale: u64, mask: &[u8], sums: &[u32], squares: &[u32]) -> Refusal {
-    for i in 0..mask.len() {
+fn impossible<const WALK: bool>(
+    frames: u64,
+    full_scale: u64,
+    mask: &[u8],
+    sums: &[u32],
+    squares: &[u32],
+) -> Refusal {
+    let sites = mask.len();
+    let (sums, squares) = (&sums[..sites], &squares[..sites]);
+    let bad = |i: usize| {
         let (s, q) = (sums[i] as u64, squares[i] as u64);
-        let bad =
-            s > frames * full_scale || q > frames * full_scale * full_scale || frames * q < s * s;
-        if mask[i] == 0 && bad {
-            return (11, 0);
-        }
+        let (most, most_squares) = (frames * full_scale, frames * full_scale * full_scale);
+        (mask[i] == 0) & ((s > most) | (q > most_squares) | (frames * q < s * s))
+    };
+    if some::<WALK>(sites, bad) {
+        (11, 0)
+    } else {
+        ACCEPTED
     }
-    ACCEPTED
 }
 
 #[inline(never)]
-fn plain_add(input: &Input, output: &mut Added) {
-    let found = added(input, &mut output.sums, &mut output.squares);
+fn plain_add<const WALK: bool>(input: &Input, output: &mut Added) {
+    let found = added::<WALK>(input, &mut output.sums, &mut output.squares);
     let refusal = found.err().unwrap_or(ACCEPTED);
     output.number = refusal.0;
     output.place = refusal.1;
     output.count = if found.is_ok() { input.frames + 1 } else { 0 };
 }
 
-fn added(input: &Input, sums: &mut [u32], squares: &mut [u32]) -> Result<(), Refusal> {
+fn added<const WALK: bool>(
+    input: &Input,
+    sums: &mut [u32],
+    squares: &mut [u32],
+) -> Result<(), Refusal> {
     let (mask, frame) = (&input.mask[..], &input.frame[..]);
     let lengths = [mask.len(), frame.len(), sums.len(), squares.len()];
     let other = input.frames > 100;
@@ -222,9 +241,9 @@ fn added(input: &Input, sums: &mut [u32], squares: &mut [u32]) -> Result<(), Ref
         other,
         &lengths,
     ))?;
-    accepted(codes(mask))?;
-    accepted(samples(input.full_scale, mask, frame))?;
-    accepted(impossible(
+    accepted(codes::<WALK>(mask))?;
+    accepted(samples::<WALK>(input.full_scale, mask, frame))?;
+    accepted(impossible::<WALK>(
         input.frames,
         input.full_scale,
         mask,
@@ -243,8 +262,8 @@ fn added(input: &Input, sums: &mut [u32], squares: &mut [u32]) -> Result<(), Ref
 }
 
 #[inline(never)]
-fn plain_variance(input: &Input, output: &mut Varied) {
-    let (refusal, numerator, denominator, variance) = match varied(input) {
+fn plain_variance<const WALK: bool>(input: &Input, output: &mut Varied) {
+    let (refusal, numerator, denominator, variance) = match varied::<WALK>(input) {
         Ok((numerator, denominator)) => (
             ACCEPTED,
             numerator,
@@ -262,7 +281,7 @@ fn plain_variance(input: &Input, output: &mut Varied) {
     };
 }
 
-fn varied(input: &Input) -> Result<(u64, u64), Refusal> {
+fn varied<const WALK: bool>(input: &Input) -> Result<(u64, u64), Refusal> {
     let (mask, sums, squares) = (&input.mask[..], &input.sums[..], &input.squares[..]);
     let k = input.frames;
     let lengths = [mask.len(), sums.len(), squares.len()];
@@ -273,12 +292,12 @@ fn varied(input: &Input) -> Result<(u64, u64), Refusal> {
         k == 0 || k > 100,
         &lengths,
     ))?;
-    accepted(codes(mask))?;
+    accepted(codes::<WALK>(mask))?;
     let n = mask.iter().filter(|&&code| code == 0).count() as u64;
     if n == 0 || k < 2 {
         return Err((7, 0));
     }
-    accepted(impossible(k, input.full_scale, mask, sums, squares))?;
+    accepted(impossible::<WALK>(k, input.full_scale, mask, sums, squares))?;
     let mut numerator = 0;
     for i in 0..mask.len() {
         let (s, q) = (sums[i] as u64, squares[i] as u64);

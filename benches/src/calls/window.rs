@@ -42,8 +42,23 @@ pub fn shape(
     ACCEPTED
 }
 
-/// Refusal 5: the first code above 3.
-pub fn codes(mask: &[u8]) -> Refusal {
+/// Whether a test holds somewhere. With `WALK` it is asked of every site: a walk with no way out vectorises.
+pub fn some<const WALK: bool>(sites: usize, test: impl Fn(usize) -> bool) -> bool {
+    if !WALK {
+        return (0..sites).any(test);
+    }
+    let mut found = false;
+    for i in 0..sites {
+        found |= test(i);
+    }
+    found
+}
+
+/// Refusal 5: the first code above 3. With `WALK` it is looked for only where there is one.
+pub fn codes<const WALK: bool>(mask: &[u8]) -> Refusal {
+    if WALK && !some::<WALK>(mask.len(), |i| mask[i] > 3) {
+        return ACCEPTED;
+    }
     for i in 0..mask.len() {
         if mask[i] > 3 {
             return (5, i as u64);
@@ -52,8 +67,13 @@ pub fn codes(mask: &[u8]) -> Refusal {
     ACCEPTED
 }
 
-/// Refusal 6: the first surveyed sample above full scale.
-pub fn samples(full_scale: u64, mask: &[u8], frame: &[u16]) -> Refusal {
+/// Refusal 6: the first surveyed sample above full scale, which refusal 2 has let pass.
+pub fn samples<const WALK: bool>(full_scale: u64, mask: &[u8], frame: &[u16]) -> Refusal {
+    let frame = &frame[..mask.len()];
+    let top = full_scale as u16;
+    if WALK && !some::<WALK>(mask.len(), |i| (mask[i] == 0) & (top < frame[i])) {
+        return ACCEPTED;
+    }
     for i in 0..mask.len() {
         if mask[i] == 0 && full_scale < frame[i] as u64 {
             return (6, i as u64);
