@@ -5,12 +5,11 @@ use mathlib.Core.List.{List, [], _∷_}
 use mathlib.Core.Path.{_≡_, refl, sym, ap, _∙_}
 use native.Mathlib.Nat.{mul-pos}
 use native.Mathlib.Omega.{arith}
-use lib.Dec.{leb}
 use lib.Ieee.{Float, binary64, ofBits}
 use lib.ListN.{length, getD, replicate, length-replicate}
 use borrow.Author.Tests.{lt-leb}
-use Rattle.window.proofs.Sides.{frame-count, scale, sites-few}
-use Rattle.window.specs.Shape.{badCount, badScale, sitesOf}
+use Rattle.window.proofs.Sides.{scale, sites-few}
+use Rattle.window.specs.Shape.{badScale, sitesOf}
 use Rattle.laws.specs.Sum.{sumTo}
 use Rattle.laws.proofs.Tables.{getD-tabulate}
 use Rattle.laws.proofs.Sole.{Sole, sole}
@@ -18,17 +17,15 @@ use Rattle.exact.specs.Quotient.{quotient, floatZero}
 use Rattle.exact.specs.Bound.{CloseTo}
 use Rattle.exact.proofs.Quotients.{quotient-near, quotient-zero}
 use Rattle.window.specs.View.{surveyed, seen, one}
-use Rattle.window.specs.Verdict.{_⨟_, refuseIf, numberOf, placeOf, ifClear}
-use Rattle.window.specs.Judge.{shapeOf, otherThan, codesOf}
+use Rattle.window.specs.Verdict.{refuseIf, numberOf, placeOf, ifClear}
 use Rattle.window.specs.declared.Refusal.{Refusal}
 use Rattle.window.specs.declared.Verdict.{Verdict}
 use Rattle.window.specs.declared.Verdict.the-variants as verdict
-use Rattle.window.proofs.Verdicts.{Tabled, Refuses, refuses, then-same, then-end, unless}
+use Rattle.window.proofs.Verdicts.{Tabled, Refuses, refuses, then-same, then-clear, then-end}
 use Rattle.window.proofs.Views.{Agree, same-view, seen-is, seen-in, seen-out}
-use Rattle.window.proofs.Chains.{shape-clear}
 use Rattle.stack.specs.Sums.{impossibleIn, squared, added, spread}
 use Rattle.stack.specs.Add.{addVerdict, addAnswered, addAnswer, addPaperOf, addPaper, addSums, addSquares}
-use Rattle.stack.specs.Variance.{tooFew, varianceVerdict, varianceAnswered, varianceAnswer, variancePaperOf, variancePaper}
+use Rattle.stack.specs.Variance.{sumsVerdict, varianceVerdict, varianceAnswered, varianceAnswer, variancePaperOf, variancePaper}
 use Rattle.stack.specs.Run.{Stack, offered, run, runVerdict, overFrames}
 use Rattle.stack.specs.declared.Variance.the-variants.{Figures}
 use Rattle.stack.proofs.Sites.{all-possible}
@@ -131,7 +128,7 @@ module _ (w h full k : ℕ) (mask sums squares : List ℕ) where
   -- blind: what the sums hold at unsurveyed sites changes nothing
   pub variance-blind : (sums′ squares′ : List ℕ) → Agree mask sums sums′ → Agree mask squares squares′
       → varianceAnswer w h full k mask sums squares ≡ varianceAnswer w h full k mask sums′ squares′
-  unfolding varianceAnswer varianceVerdict
+  unfolding varianceAnswer varianceVerdict sumsVerdict
   variance-blind sums′ squares′ s q = rw (s .long, q .long, same-view s, same-view q)
 
   -- within the limits, sums that 11 does not refuse have no s² above its k × q, and a numerator below 2 ^ 53
@@ -146,39 +143,20 @@ module _ (w h full k : ℕ) (mask sums squares : List ℕ) where
 
   -- of an accepted variance: the float is within one part in 2^52 of the fraction
   pub variance-near : (p q : ℕ) (x : Float) → varianceAnswer w h full k mask sums squares ≡ Figures p q x → CloseTo (2 ^ 52) x p q
+  unfolding varianceVerdict
   variance-near p q x e =
       let is = variances.answer-is w h full k mask sums squares p q x e in
-      rw (is .3, is .1, is .2) (quotient-near _ _ (variances.ranged w h full k mask sums squares (variances.accepted w h full k mask sums squares (is .0))))
-
-  unmet : full ≤ 4095 → k ≤ 100 → impossibleIn (sitesOf w h) full k (seen mask sums) (seen mask squares) ≡ false
-      → refuseIf 14 0 (leb (2 ^ 53) (spread (sitesOf w h) k (seen mask sums) (seen mask squares))) ≡ verdict.Clear
-  unfolding refuseIf
-  unmet bright most e =
-      let possible = all-possible (sitesOf w h) full k (seen mask sums) (seen mask squares) e in
-      rw (lt-leb (2 ^ 53) (spread (sitesOf w h) k (seen mask sums) (seen mask squares))
-      (variances.spread-exact (sitesOf w h) full k (seen mask sums) (seen mask squares) (sites-few w h) bright most possible))
+      rw (is .3, is .1, is .2) (quotient-near _ _ (variances.ranged w h full k mask sums squares (variances.accepted w h full k mask sums squares (then-clear _ _ (is .0) .0))))
 
   -- so 14 is never given: without its test the verdict is the same
-  pub never-inexact : varianceVerdict w h full k mask sums squares
-      ≡ shapeOf w h full
-      ⨟ refuseIf 3 0 (badCount k)
-      ⨟ refuseIf 4 0 (otherThan (sitesOf w h) (length mask))
-      ⨟ refuseIf 4 0 (otherThan (sitesOf w h) (length sums))
-      ⨟ refuseIf 4 0 (otherThan (sitesOf w h) (length squares))
-      ⨟ codesOf (sitesOf w h) mask
-      ⨟ refuseIf 7 0 (tooFew (sumTo (sitesOf w h) (one mask)) k)
-      ⨟ refuseIf 11 0 (impossibleIn (sitesOf w h) full k (seen mask sums) (seen mask squares))
-  unfolding varianceVerdict
+  pub never-inexact : varianceVerdict w h full k mask sums squares ≡ sumsVerdict w h full k mask sums squares
+  unfolding varianceVerdict refuseIf
   never-inexact =
-      then-same (shapeOf w h full) (λ legal. then-same (refuseIf 3 0 (badCount k)) (λ good.
-      then-same (refuseIf 4 0 (otherThan (sitesOf w h) (length mask))) (λ _.
-      then-same (refuseIf 4 0 (otherThan (sitesOf w h) (length sums))) (λ _.
-      then-same (refuseIf 4 0 (otherThan (sitesOf w h) (length squares))) (λ _.
-      then-same (codesOf (sitesOf w h) mask) (λ _.
-      then-same (refuseIf 7 0 (tooFew (sumTo (sitesOf w h) (one mask)) k)) (λ _.
-      then-same (refuseIf 11 0 (impossibleIn (sitesOf w h) full k (seen mask sums) (seen mask squares))) (λ odd.
-      unmet (shape-clear w h full legal .1 .high) (frame-count k (unless 3 0 (badCount k) good) .high) (unless 11 0 (impossibleIn (sitesOf w h) full k (seen mask sums) (seen mask squares)) odd))
-      ∙ then-end (refuseIf 11 0 (impossibleIn (sitesOf w h) full k (seen mask sums) (seen mask squares))))))))))
+      then-same (sumsVerdict w h full k mask sums squares) (λ clear.
+      let a = variances.accepted w h full k mask sums squares clear in
+      rw (lt-leb (2 ^ 53) (spread (sitesOf w h) k (seen mask sums) (seen mask squares))
+      (variances.spread-exact (sitesOf w h) full k (seen mask sums) (seen mask squares) (sites-few w h) (a .bright) (a .most) (a .possible))))
+      ∙ then-end (sumsVerdict w h full k mask sums squares)
 
 -- ---- runs of frames, from zero sums, with one window, full scale and mask
 module _ (w h full : ℕ) (mask : List ℕ) where

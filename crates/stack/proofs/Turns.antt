@@ -45,6 +45,11 @@ asked-more full k mask sums squares i s q found here f e p r =
     ap₂ _||_ f (e ∙ ap₂ (impossible full k) (p ∙ sym (seen-is mask sums i)) (r ∙ sym (seen-is mask squares i)))
     ∙ some-more (impossibleAt full k (seen mask sums) (seen mask squares)) i
 
+-- where s² is not above k × q at a site, it is not of its two sums as they are seen
+pub leaves-none : (k : ℕ) (mask sums squares : List ℕ) (i s q : ℕ) → seen mask sums i * seen mask sums i ≤ k * seen mask squares i
+    → s ≡ seenAt (getD mask i 0) (getD sums i 0) → q ≡ seenAt (getD mask i 0) (getD squares i 0) → s * s ≤ k * q
+leaves-none k mask sums squares i s q h p r = rw (p, r, ← seen-is mask sums i, ← seen-is mask squares i) h
+
 -- one turn of the numerator
 pub spread-none : (k : ℕ) (s q : ℕ → ℕ) → 0 ≡ spread 0 k s q
 unfolding spread

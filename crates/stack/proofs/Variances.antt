@@ -1,8 +1,8 @@
 -- The verdict on a stack's variance, and what it makes of the answer.
 use Prim.Native.Nat.{ℕ, _-_, _*_, _^_, _≤_, _<_}
-use mathlib.Core.Bool.{true, false, _&&_, cond}
-use mathlib.Core.List.{List, [], _∷_}
-use mathlib.Core.Path.{_≡_, refl, ap, _∙_}
+use mathlib.Core.Bool.{false, _&&_}
+use mathlib.Core.List.{List, [], _∷_, _++_}
+use mathlib.Core.Path.{_≡_, refl, sym, ap, _∙_}
 use native.Mathlib.Nat.{mul-pos}
 use native.Mathlib.Omega.{arith}
 use lib.Dec.{eqb, ltb, leb}
@@ -23,12 +23,12 @@ use Rattle.window.specs.Judge.{shapeOf, otherThan, codesOf, walked}
 use Rattle.window.specs.declared.Refusal.{Refusal}
 use Rattle.window.specs.declared.Verdict.{Verdict}
 use Rattle.window.specs.declared.Verdict.the-variants as verdict
-use Rattle.window.proofs.Verdicts.{Test, Tabled, test, testFirst, tabled, passed-head, passed-tail, then-same, unless}
+use Rattle.window.proofs.Verdicts.{Test, Tabled, test, testFirst, tabled, tabled-then, passed-head, passed-tail, then-same, unless}
 use Rattle.window.proofs.Views.{surveyed-few}
 use Rattle.window.proofs.Chains.{shape-then, shape-clear, same-length, measured, codes-whole}
 use Rattle.stack.specs.Sums.{impossibleIn, spread}
 use Rattle.stack.specs.Walk.{readable}
-use Rattle.stack.specs.Variance.{tooFew, varianceVerdict, varianceAnswered, varianceAnswer, variancePaperOf, variancePaper}
+use Rattle.stack.specs.Variance.{tooFew, sumsVerdict, varianceVerdict, varianceAnswered, varianceAnswer, variancePaperOf, variancePaper}
 use Rattle.stack.specs.declared.Variance.the-variants.{Figures, Refused}
 use Rattle.stack.proofs.Sites.{Possible, readable-whole, all-possible}
 
@@ -56,9 +56,8 @@ spread-exact n full k s q few bright most possible =
         omega arith
 
 module _ (w h full k : ℕ) (mask sums squares : List ℕ) where
-  -- the tests in the order of document 01
-  abbrev pub tests : List Test
-  tests =
+  abbrev sums-tests : List Test
+  sums-tests =
       test 1 0 (badSides w h)
       ∷ test 2 0 (badScale full)
       ∷ test 3 0 (badCount k)
@@ -68,16 +67,22 @@ module _ (w h full k : ℕ) (mask sums squares : List ℕ) where
       ∷ testFirst 5 (sitesOf w h) (badCode mask)
       ∷ test 7 0 (tooFew (sumTo (sitesOf w h) (one mask)) k)
       ∷ test 11 0 (impossibleIn (sitesOf w h) full k (seen mask sums) (seen mask squares))
-      ∷ test 14 0 (leb (2 ^ 53) (spread (sitesOf w h) k (seen mask sums) (seen mask squares)))
       ∷ []
 
+  sums-table : Tabled (sumsVerdict w h full k mask sums squares) sums-tests
+  unfolding sumsVerdict refuseFirst
+  sums-table = rw shape-then (tabled _ _)
+
+  -- the tests in the order of document 01
+  abbrev pub tests : List Test
+  tests = sums-tests ++ test 14 0 (leb (2 ^ 53) (spread (sitesOf w h) k (seen mask sums) (seen mask squares))) ∷ []
+
   pub table : Tabled (varianceVerdict w h full k mask sums squares) tests
-  unfolding varianceVerdict refuseFirst
-  table = rw shape-then (tabled _ _)
+  unfolding varianceVerdict
+  table = tabled-then sums-table (tabled _ _)
 
   -- what is judged of buffers of another length does not matter: 4 comes first
-  pub judged : (count numerator : ℕ) → count ≡ sumTo (walked w h (length mask)) (one mask)
-      → numerator ≡ cond (readable full k (length mask) (length sums) (length squares)) (spread (length mask) k (seen mask sums) (seen mask squares)) 0
+  pub judged : (count : ℕ) → count ≡ sumTo (walked w h (length mask)) (one mask)
       → shapeOf w h full
       ⨟ refuseIf 3 0 (badCount k)
       ⨟ refuseIf 4 0 (otherThan (sitesOf w h) (length mask))
@@ -86,42 +91,42 @@ module _ (w h full k : ℕ) (mask sums squares : List ℕ) where
       ⨟ codesOf (walked w h (length mask)) mask
       ⨟ refuseIf 7 0 (tooFew count k)
       ⨟ refuseIf 11 0 (readable full k (length mask) (length sums) (length squares) && impossibleIn (length mask) full k (seen mask sums) (seen mask squares))
-      ⨟ refuseIf 14 0 (leb (2 ^ 53) numerator)
-      ≡ varianceVerdict w h full k mask sums squares
-  unfolding varianceVerdict
-  judged count numerator n p =
+      ≡ sumsVerdict w h full k mask sums squares
+  unfolding sumsVerdict
+  judged count n =
       then-same (shapeOf w h full) (λ legal. then-same (refuseIf 3 0 (badCount k)) (λ good.
       measured (sitesOf w h) (length mask) (λ m.
       measured (sitesOf w h) (length sums) (λ s. measured (sitesOf w h) (length squares) (λ q.
       let r = readable-whole w h full k mask sums squares (shape-clear w h full legal .1 .high) (frame-count k (unless 3 0 (badCount k) good) .high) m s q in
-      rw (codes-whole w h mask m, n, walked-whole w h (length mask) m, p, r, m))))))
+      rw (codes-whole w h mask m, n, walked-whole w h (length mask) m, r, m))))))
 
-  -- what is known of the sums of an accepted call
+  -- what is known of sums that 1 to 11 do not refuse
   pub record Accepted : Type 0 where
     pub masked : length mask ≡ sitesOf w h
-    pub legible : readable full k (length mask) (length sums) (length squares) ≡ true
+    pub summed : length sums ≡ sitesOf w h
+    pub squared : length squares ≡ sitesOf w h
     pub bright : full ≤ 4095
     pub most : k ≤ 100
     pub least : 2 ≤ k
     pub some : 0 < sumTo (sitesOf w h) (one mask)
     pub possible : (i : ℕ) → i < sitesOf w h → Possible full k (seen mask sums i) (seen mask squares i)
 
-  pub accepted : varianceVerdict w h full k mask sums squares ≡ verdict.Clear → Accepted
+  pub accepted : sumsVerdict w h full k mask sums squares ≡ verdict.Clear → Accepted
   accepted e =
-      let p₂ = passed-tail (table .clear e) in
+      let p₂ = passed-tail (sums-table .clear e) in
       let p₃ = passed-tail p₂ in
       let p₄ = passed-tail p₃ in
       let s₄ = passed-tail p₄ in
       let q₄ = passed-tail s₄ in
       let p₇ = passed-tail (passed-tail q₄) in
       let n = sitesOf w h in
-      let m = same-length n (length mask) (passed-head p₄) in
       let bright = scale full (passed-head p₂) .high in
       let most = frame-count k (passed-head p₃) .high in
       let both = enough (sumTo n (one mask)) k (passed-head p₇) in
       record {
-        masked = m;
-        legible = readable-whole w h full k mask sums squares bright most m (same-length n (length sums) (passed-head s₄)) (same-length n (length squares) (passed-head q₄));
+        masked = same-length n (length mask) (passed-head p₄);
+        summed = same-length n (length sums) (passed-head s₄);
+        squared = same-length n (length squares) (passed-head q₄);
         bright = bright;
         most = most;
         least = both .1;
@@ -155,34 +160,52 @@ module _ (w h full k : ℕ) (mask sums squares : List ℕ) where
       by verdict.Clear e = (refl, cc, cc, cc)
       by (verdict.Refused r) e = let z : _≡_ {A = ℕ} 0 1 = cc in absurd (omega arith)
 
-  pub refused-is : (r : Refusal) → varianceVerdict w h full k mask sums squares ≡ verdict.Refused r
+  -- what is answered where 1 to 11 refuse
+  pub sums-refused : (r : Refusal) → sumsVerdict w h full k mask sums squares ≡ verdict.Refused r
       → (Refused r ≡ varianceAnswer w h full k mask sums squares) × (variancePaperOf (Refused r) ≡ variancePaper w h full k mask sums squares)
-  unfolding varianceAnswer variancePaper
-  refused-is r e = rw e (refl, refl)
+  unfolding varianceAnswer variancePaper varianceVerdict _⨟_
+  sums-refused r e = rw e (refl, refl)
 
-  -- what is answered of the count and the numerator that were judged
-  module _ (clear : varianceVerdict w h full k mask sums squares ≡ verdict.Clear) (count p : ℕ)
-      (n : count ≡ sumTo (walked w h (length mask)) (one mask))
-      (e : p ≡ cond (readable full k (length mask) (length sums) (length squares)) (spread (length mask) k (seen mask sums) (seen mask squares)) 0) where
-    known : Accepted
-    known = accepted clear
-
-    counted : count ≡ sumTo (sitesOf w h) (one mask)
-    counted = n ∙ ap (λ (m : ℕ). sumTo m (one mask)) (walked-whole w h (length mask) (known .masked))
-
-    numerator : p ≡ spread (sitesOf w h) k (seen mask sums) (seen mask squares)
-    numerator = e ∙ rw (known .legible, known .masked)
+  -- and where they do not, p being the numerator
+  module _ (clear : sumsVerdict w h full k mask sums squares ≡ verdict.Clear) where
+    -- what the walk asks of the sums
+    pub walkable : (k ≤ 100) × (length mask ≤ 16384) × (length sums ≡ length mask) × (length squares ≡ length mask)
+        × ((i : ℕ) → i < length mask → seen mask sums i * seen mask sums i ≤ k * seen mask squares i)
+    walkable =
+        let a = accepted clear in (
+          a .most,
+          omega (arith, a .masked, sites-few w h),
+          a .summed ∙ sym (a .masked),
+          a .squared ∙ sym (a .masked),
+          (λ i l. a .possible i (omega (arith, a .masked)) .spread),
+        )
 
     pub frames-fit : k * k ≤ 10000
-    frames-fit = times-le k k 100 100 (known .most) (known .most)
+    frames-fit = times-le k k 100 100 (accepted clear .most) (accepted clear .most)
 
-    pub denominator-fits : count * (k * k) ≤ 16384 * 10000
-    denominator-fits = times-le count (k * k) 16384 10000 (omega (arith, counted, few-enough known)) frames-fit
+    module _ (count p : ℕ) (n : count ≡ sumTo (walked w h (length mask)) (one mask)) (e : p ≡ spread (length mask) k (seen mask sums) (seen mask squares)) where
+      counted : count ≡ sumTo (sitesOf w h) (one mask)
+      counted = n ∙ ap (λ (m : ℕ). sumTo m (one mask)) (walked-whole w h (length mask) (accepted clear .masked))
 
-    pub accepted-is : (v : Float) → v ≡ quotientOrZero p (count * (k * k))
-        → (Figures p (count * (k * k)) v ≡ varianceAnswer w h full k mask sums squares)
-        × (variancePaperOf (Figures p (count * (k * k)) v) ≡ variancePaper w h full k mask sums squares)
-    unfolding varianceAnswer variancePaper
-    accepted-is v q =
-        let one-rounding = ranged-quotient (spread (sitesOf w h) k (seen mask sums) (seen mask squares)) (sumTo (sitesOf w h) (one mask) * (k * k)) (ranged known) in
-        rw (q, clear, numerator, counted, one-rounding) (refl, refl)
+      numerator : p ≡ spread (sitesOf w h) k (seen mask sums) (seen mask squares)
+      numerator = e ∙ ap (λ (m : ℕ). spread m k (seen mask sums) (seen mask squares)) (accepted clear .masked)
+
+      rest : refuseIf 14 0 (leb (2 ^ 53) p) ≡ varianceVerdict w h full k mask sums squares
+      unfolding varianceVerdict _⨟_
+      rest = rw (clear, numerator)
+
+      pub numerator-refused : (r : Refusal) → refuseIf 14 0 (leb (2 ^ 53) p) ≡ verdict.Refused r
+          → (Refused r ≡ varianceAnswer w h full k mask sums squares) × (variancePaperOf (Refused r) ≡ variancePaper w h full k mask sums squares)
+      unfolding varianceAnswer variancePaper
+      numerator-refused r f = rw (sym rest ∙ f) (refl, refl)
+
+      pub denominator-fits : count * (k * k) ≤ 16384 * 10000
+      denominator-fits = times-le count (k * k) 16384 10000 (omega (arith, counted, few-enough (accepted clear))) frames-fit
+
+      pub accepted-is : (v : Float) → refuseIf 14 0 (leb (2 ^ 53) p) ≡ verdict.Clear → v ≡ quotientOrZero p (count * (k * k))
+          → (Figures p (count * (k * k)) v ≡ varianceAnswer w h full k mask sums squares)
+          × (variancePaperOf (Figures p (count * (k * k)) v) ≡ variancePaper w h full k mask sums squares)
+      unfolding varianceAnswer variancePaper
+      accepted-is v f q =
+          let one-rounding = ranged-quotient (spread (sitesOf w h) k (seen mask sums) (seen mask squares)) (sumTo (sitesOf w h) (one mask) * (k * k)) (ranged (accepted clear)) in
+          rw (q, sym rest ∙ f, numerator, counted, one-rounding) (refl, refl)

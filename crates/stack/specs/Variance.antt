@@ -21,9 +21,9 @@ use Rattle.stack.specs.declared.Variance.the-variants.{Figures, Refused}
 unfoldable pub tooFew : ℕ → ℕ → Bool
 tooFew sites k = eqb sites 0 || ltb k 2
 
--- the refusals in their order
-unfoldable pub varianceVerdict : ℕ → ℕ → ℕ → ℕ → List ℕ → List ℕ → List ℕ → Verdict
-varianceVerdict w h full k mask sums squares =
+-- refusals 1 to 5, 7 and 11, in their order
+unfoldable pub sumsVerdict : ℕ → ℕ → ℕ → ℕ → List ℕ → List ℕ → List ℕ → Verdict
+sumsVerdict w h full k mask sums squares =
     shapeOf w h full
     ⨟ refuseIf 3 0 (badCount k)
     ⨟ refuseIf 4 0 (otherThan (sitesOf w h) (length mask))
@@ -32,6 +32,11 @@ varianceVerdict w h full k mask sums squares =
     ⨟ codesOf (sitesOf w h) mask
     ⨟ refuseIf 7 0 (tooFew (sumTo (sitesOf w h) (one mask)) k)
     ⨟ refuseIf 11 0 (impossibleIn (sitesOf w h) full k (seen mask sums) (seen mask squares))
+
+-- and 14, of the numerator
+unfoldable pub varianceVerdict : ℕ → ℕ → ℕ → ℕ → List ℕ → List ℕ → List ℕ → Verdict
+varianceVerdict w h full k mask sums squares =
+    sumsVerdict w h full k mask sums squares
     ⨟ refuseIf 14 0 (leb (2 ^ 53) (spread (sitesOf w h) k (seen mask sums) (seen mask squares)))
 
 abbrev pub varianceAnswered : Verdict → ℕ → ℕ → Variance

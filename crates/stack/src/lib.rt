@@ -1,6 +1,6 @@
 // A stack of frames: document 01, "Stack".
 ghost use mathlib.Core.Path.{_≡_};
-ghost use mathlib.Core.Bool.{true, _&&_, cond};
+ghost use mathlib.Core.Bool.{true, _&&_};
 ghost use Prim.Native.Nat.{ℕ, _+_, _-_, _*_, _^_, _≤_, _<_};
 ghost use lib.ListN.{length, getD};
 ghost use Rattle.laws.specs.Sum.{sumTo};
@@ -9,7 +9,7 @@ ghost use Rattle.window.specs.View.{seenAt, seen, one};
 ghost use Rattle.window.specs.Verdict.{refuseIf};
 ghost use Rattle.stack.specs.Sums.{impossible, impossibleIn, squared, added, spread};
 ghost use Rattle.stack.specs.Walk.{readable};
-ghost use Rattle.stack.specs.Variance.{tooFew, varianceVerdict, varianceAnswer, variancePaperOf, variancePaper};
+ghost use Rattle.stack.specs.Variance.{tooFew, sumsVerdict, varianceAnswer, variancePaperOf, variancePaper};
 ghost use Rattle.stack.specs.Add.{addVerdict, addAnswer, addPaperOf, addPaper, addSums, addSquares};
 use window::Refusal;
 use window::Verdict;
@@ -59,23 +59,14 @@ fn impossible(full_scale: u64, frames: u64, sum: u32, square: u32) -> bool
 {
     let s = sum as u64;
     let q = square as u64;
-    if frames * full_scale < s {
-        return true;
-    }
-    if frames * (full_scale * full_scale) < q {
-        return true;
-    }
-    frames * q < s * s
+    let sum_over = frames * full_scale < s;
+    let square_over = frames * (full_scale * full_scale) < q;
+    let crossed = frames * q < s * s;
+    sum_over | (square_over | crossed)
 }
 
 // Whether some site's sums cannot come from so many frames.
-fn some_impossible(
-    full_scale: u64,
-    frames: u64,
-    mask: &[u8],
-    sums: &[u32],
-    squares: &[u32],
-) -> bool
+fn some_impossible(full_scale: u64, frames: u64, mask: &[u8], sums: &[u32], squares: &[u32]) -> bool
     requires { ⌜ readable «full_scale» frames (length (now mask)) (length (now sums)) (length (now squares)) ≡ true ⌝ }
     ensures { λ r. ⌜ r ≡ impossibleIn (length (now (mask .entry))) «full_scale» frames (seen (now (mask .entry)) (now (sums .entry))) (seen (now (mask .entry)) (now (squares .entry))) ⌝ }
 {
@@ -191,44 +182,32 @@ fn too_few(sites: u64, frames: u64) -> bool
     sites == 0 || frames < 2
 }
 
-// k × q − s² at a site, or 0 where s² is the greater.
+// k × q − s² at a site.
 fn excess(frames: u64, sum: u32, square: u32) -> u64
-    requires { ⌜ frames ≤ 100 ⌝ }
+    requires { ⌜ (frames ≤ 100) × (sum * sum ≤ frames * square) ⌝ }
     ensures { λ r. ⌜ (r ≡ frames * square - sum * sum) × (r ≤ 100 * 4294967295) ⌝ }
 {
     let whole = frames * (square as u64);
     let taken = (sum as u64) * (sum as u64);
-    if whole < taken { 0 } else { whole - taken }
+    whole - taken
 }
 
-// The sum of k × q − s² over the surveyed sites.
-fn sum_excess(frames: u64, mask: &[u8], sums: &[u32], squares: &[u32]) -> u64
-    requires { ⌜ (frames ≤ 100) × (length (now mask) ≤ 16384) × (length (now sums) ≡ length (now mask)) × (length (now squares) ≡ length (now mask)) ⌝ }
+// The sum of k × q − s² over the surveyed sites, of sums that 11 does not refuse.
+fn spread(frames: u64, mask: &[u8], sums: &[u32], squares: &[u32]) -> u64
+    requires { ⌜ (frames ≤ 100) × (length (now mask) ≤ 16384) × (length (now sums) ≡ length (now mask)) × (length (now squares) ≡ length (now mask))
+        × ((i : ℕ) → i < length (now mask) → seen (now mask) (now sums) i * seen (now mask) (now sums) i ≤ frames * seen (now mask) (now squares) i) ⌝ }
     ensures { λ r. ⌜ r ≡ spread (length (now (mask .entry))) frames (seen (now (mask .entry)) (now (sums .entry))) (seen (now (mask .entry)) (now (squares .entry))) ⌝ }
 {
     let mut total: u64 = 0;
     for i in 0..mask.len() {
-        total += excess(
-            frames,
-            sum_at(mask[i], sums[i]),
-            sum_at(mask[i], squares[i]),
-        );
+        let sum = sum_at(mask[i], sums[i]);
+        let square = sum_at(mask[i], squares[i]);
+        total += excess(frames, sum, square);
     }
     total
 }
 
-// The variance's numerator, of sums that can be read, and 0 of any others.
-fn spread(full_scale: u64, frames: u64, mask: &[u8], sums: &[u32], squares: &[u32]) -> u64
-    ensures { λ r. ⌜ r ≡ cond (readable «full_scale» frames (length (now (mask .entry))) (length (now (sums .entry))) (length (now (squares .entry))))
-        (spread (length (now (mask .entry))) frames (seen (now (mask .entry)) (now (sums .entry))) (seen (now (mask .entry)) (now (squares .entry)))) 0 ⌝ }
-{
-    if readable(full_scale, frames, mask.len(), sums.len(), squares.len()) {
-        return sum_excess(frames, mask, sums, squares);
-    }
-    0
-}
-
-// Refusals 1 to 5, 7, 11 and 14 of a stack with this many surveyed sites and this numerator.
+// Refusals 1 to 5, 7 and 11 of a stack with this many surveyed sites.
 fn judge_stack(
     width: usize,
     height: usize,
@@ -238,12 +217,9 @@ fn judge_stack(
     sums: &[u32],
     squares: &[u32],
     count: u64,
-    numerator: u64,
 ) -> Verdict
-    requires { ⌜ (count ≡ sumTo (walked width height (length (now mask))) (one (now mask)))
-        × (numerator ≡ cond (readable «full_scale» frames (length (now mask)) (length (now sums)) (length (now squares)))
-        (spread (length (now mask)) frames (seen (now mask) (now sums)) (seen (now mask) (now squares))) 0) ⌝ }
-    ensures { λ r. ⌜ r ≡ varianceVerdict width height «full_scale» frames (now (mask .entry)) (now (sums .entry)) (now (squares .entry)) ⌝ }
+    requires { ⌜ count ≡ sumTo (walked width height (length (now mask))) (one (now mask)) ⌝ }
+    ensures { λ r. ⌜ r ≡ sumsVerdict width height «full_scale» frames (now (mask .entry)) (now (sums .entry)) (now (squares .entry)) ⌝ }
 {
     let n = window::sites(width, height);
     let shape = window::shape(width, height, full_scale);
@@ -254,8 +230,7 @@ fn judge_stack(
     let codes = window::codes(width, height, mask);
     let few = window::refuse_if(7, 0, too_few(count, frames));
     let odd = possible(full_scale, frames, mask, sums, squares);
-    let inexact = window::refuse_if(14, 0, exact::LOSSLESS <= numerator);
-    let sites = window::then(codes, window::then(few, window::then(odd, inexact)));
+    let sites = window::then(codes, window::then(few, odd));
     let stack_long = window::then(sums_long, window::then(squares_long, sites));
     window::then(
         shape,
@@ -277,8 +252,7 @@ pub fn stack_variance(
     ensures paper { λ r. ⌜ variancePaperOf r ≡ variancePaper width height «full_scale» frames (now (mask .entry)) (now (sums .entry)) (now (squares .entry)) ⌝ }
 {
     let count = window::surveyed(width, height, mask);
-    let numerator = spread(full_scale, frames, mask, sums, squares);
-    match judge_stack(
+    let lent = judge_stack(
         width,
         height,
         full_scale,
@@ -287,8 +261,12 @@ pub fn stack_variance(
         sums,
         squares,
         count,
-        numerator,
-    ) {
+    );
+    if let Verdict::Refused(refusal) = lent {
+        return Variance::Refused(refusal);
+    }
+    let numerator = spread(frames, mask, sums, squares);
+    match window::refuse_if(14, 0, exact::LOSSLESS <= numerator) {
         Verdict::Refused(refusal) => Variance::Refused(refusal),
         Verdict::Clear => {
             let denominator = count * (frames * frames);

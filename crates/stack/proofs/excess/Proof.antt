@@ -1,4 +1,5 @@
--- `excess` is right because the difference is taken only where it is not below 0.
+-- `excess` is right because s² is not above k × q.
+use mathlib.Core.Path.{refl}
 use native.Mathlib.Omega.{arith}
 use Rattle.laws.proofs.Cases.{times-le}
 use Rattle.stack.proofs.excess.Statement.{statement}
@@ -12,12 +13,12 @@ mul-taken : tie.Need-mul-taken
 mul-taken c = let a = c .args in
     omega (arith, times-le (a .sum) (a .sum) 4294967295 4294967295 (omega arith) (omega arith))
 
-returns : tie.Need-returns
-returns c = (omega arith, omega arith)
+sub-result : tie.Need-sub-result
+sub-result c = c .pre .1
 
-returns-2 : tie.Need-returns-2
-returns-2 c = let a = c .before .args in
-    (omega arith, omega (arith, times-le (a .frames) (a .square) 100 4294967295 (omega arith) (omega arith)))
+returns : tie.Need-returns
+returns c = let a = c .args in
+    (refl, omega (arith, times-le (a .frames) (a .square) 100 4294967295 (omega arith) (omega arith)))
 
 pub excess-spec : {M : Type 1} → statement M
-excess-spec = tie.close (tie.spec mul-whole mul-taken returns returns-2)
+excess-spec = tie.close (tie.spec mul-whole mul-taken sub-result returns)

@@ -41,9 +41,6 @@ refuse-if-requires-5 c κs = search needs
 possible-requires : tie.Need-possible-requires
 possible-requires c κs = search needs
 
-refuse-if-requires-6 : tie.Need-refuse-if-requires-6
-refuse-if-requires-6 c κs = search needs
-
 then-requires : tie.Need-then-requires
 then-requires c κs = search needs
 
@@ -65,27 +62,23 @@ then-requires-6 c κs = search needs
 then-requires-7 : tie.Need-then-requires-7
 then-requires-7 c κs = search needs
 
-then-requires-8 : tie.Need-then-requires-8
-then-requires-8 c κs = search needs
-
 returns : tie.Need-returns
 returns c = let sites = c .before .before .before .before .before in
-    let inexact = sites .before .before .before in
-    let squares-long = inexact .before .before .before .before .before in
+    let odd = sites .before .before in
+    let squares-long = odd .before .before .before .before in
     let bad = squares-long .before .before .before in
     let asked = bad .before .before .before in
     let begun = asked .before .before .before .before in
     let args = begun .args in
     let n = asked .sites .ensures .0 in
-    then-of (c .then8 .ensures) (bad .before .before .shape .ensures)
-    (then-of (c .before .then7 .ensures) (bad .refuse-if .ensures ∙ ap (refuseIf 3 0) (bad .before .bad-count .ensures))
-    (then-of (c .before .before .then6 .ensures) (length-told _ _ _ n (squares-long .before .before .refuse-if2 .ensures))
-    (then-of (c .before .before .before .then5 .ensures) (length-told _ _ _ n (squares-long .before .refuse-if3 .ensures))
-    (then-of (c .before .before .before .before .then4 .ensures) (length-told _ _ _ n (squares-long .refuse-if4 .ensures))
-    (then-of (sites .then3 .ensures) (inexact .before .before .before .before .codes .ensures)
-    (then-of (sites .before .then2 .ensures) (inexact .before .before .refuse-if5 .ensures ∙ ap (refuseIf 7 0) (inexact .before .before .before .too-few .ensures))
-    (then-of (sites .before .before .then .ensures) (inexact .before .possible .ensures) (inexact .refuse-if6 .ensures))))))))
-    ∙ judged (args .width) (args .height) (args .full-scale) (args .frames) (args .mask .now) (args .sums .now) (args .squares .now) (args .count) (args .numerator) (begun .pre .0) (begun .pre .1)
+    then-of (c .then7 .ensures) (bad .before .before .shape .ensures)
+    (then-of (c .before .then6 .ensures) (bad .refuse-if .ensures ∙ ap (refuseIf 3 0) (bad .before .bad-count .ensures))
+    (then-of (c .before .before .then5 .ensures) (length-told _ _ _ n (squares-long .before .before .refuse-if2 .ensures))
+    (then-of (c .before .before .before .then4 .ensures) (length-told _ _ _ n (squares-long .before .refuse-if3 .ensures))
+    (then-of (c .before .before .before .before .then3 .ensures) (length-told _ _ _ n (squares-long .refuse-if4 .ensures))
+    (then-of (sites .then2 .ensures) (odd .before .before .before .codes .ensures)
+    (then-of (sites .before .then .ensures) (odd .before .refuse-if5 .ensures ∙ ap (refuseIf 7 0) (odd .before .before .too-few .ensures)) (odd .possible .ensures)))))))
+    ∙ judged (args .width) (args .height) (args .full-scale) (args .frames) (args .mask .now) (args .sums .now) (args .squares .now) (args .count) (begun .pre)
 
 pub judge-stack-spec : {M : Type 1} → statement M
 judge-stack-spec =
@@ -102,7 +95,6 @@ judge-stack-spec =
     too-few-requires
     refuse-if-requires-5
     possible-requires
-    refuse-if-requires-6
     then-requires
     then-requires-2
     then-requires-3
@@ -110,5 +102,4 @@ judge-stack-spec =
     then-requires-5
     then-requires-6
     then-requires-7
-    then-requires-8
     returns)
