@@ -1,5 +1,5 @@
 -- Document 01, "What the promises have to settle": how far a float may be from an exact figure.
--- A float x is its whole significand times a power of two; num x / den x is that as a fraction (0 / 1 where x is no such number).
+-- A float x is its whole significand times a power of two; num x / den x is its size as a fraction (0 / 1 where x is no such number).
 use Prim.Native.Nat.{ℕ, _+_, _-_, _*_, _≤_}
 use mathlib.Core.Bool.{Bool, false, not}
 use lib.Dec.{T}
