@@ -39,8 +39,9 @@
  *  - A site is a place of a window, numbered from 0 in row order: row y, column x is site y * width + x.
  *  - A sample is 16 bits, in grey levels: 0 to full_scale at a surveyed site, any number at any other.
  *  - full_scale, the greatest sample that a surveyed site may have, is 1 to 4095 grey levels.
- *  - A mask has a code for each site: 0 surveyed, 1 gap, 2 defect, 3 filled. Only samples and sums at code 0 are read
- *    for a figure, a verdict or a refusal; at any other code they may be any number.
+ *  - A mask has a code for each site: 0 surveyed (its sample counts), 1 gap (nothing was seen there), 2 defect (found
+ *    bad), 3 filled (a defect that repair gave a sample). Only samples and sums at code 0 are read for a figure, a
+ *    verdict or a refusal; at any other code they may be any number.
  *  - A plane is the sites of one row parity and one column parity. There are four, each width / 2 by height / 2:
  *    (0,0), (0,1), (1,0), (1,1), the row's parity first.
  *  - A buffer is a pointer and a length. The length counts elements, not bytes, and must be exactly what is said.
@@ -87,7 +88,8 @@
  *   24   a side of a stream's window is above 64
  *
  * The place of 5 and 6 is the first offending site, as its number in its own frame; of 20 to 23 an offset in the
- * stream, in bytes from 0; of any other refusal it is 0.
+ * stream, in bytes from 0; of any other refusal it is 0. A 6 of two frames is the first frame's where the first's
+ * sample at that site is above full scale, else the second's.
  */
 #ifndef TIPPOVRAIN_H
 #define TIPPOVRAIN_H
@@ -450,7 +452,8 @@ uint64_t tip_colour_ratios(size_t width, size_t height, uint64_t full_scale, uin
 /*
  * A whole job in one stream: two frames, their mask and numbers in, pair noise and the first frame's dark level out.
  * A field is a one-byte tag, a two-byte big-endian length and the body; tags 1 to 7 then 0, in that order: 1 width,
- * 2 height, 3 full scale, 4 black level (two bytes each, big-endian), 5 mask, 6 and 7 the frames in RAW10, 0 empty.
+ * 2 height, 3 full scale, 4 black level (two bytes each, big-endian), 5 mask (width * height bytes), 6 and 7 the
+ * frames in RAW10 (width * height * 5 / 4 bytes each), 0 empty. Fields 1 to 5 begin at bytes 0, 5, 10, 15 and 20.
  * Sides are at most 64, so no good stream is longer than 14,368 bytes, and the first 14,369 decide every answer.
  *
  *   input   the stream, only read

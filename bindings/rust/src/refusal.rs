@@ -26,6 +26,8 @@ use std::fmt;
 /// | 23 | bytes follow a stream's field 0 |
 /// | 24 | a stream's window has a side above 64 sites |
 ///
+/// 3 and 4 do not say which parameter or buffer: the list of errors of each call names those that it asks.
+///
 /// They are tested in ascending number and the first that applies is given, but for [`colour_ratios`], which tests 9
 /// before 7, and [`job`], which goes by the stream.
 ///
@@ -89,9 +91,9 @@ impl Refusal {
             }
             12 => "the stack is full: it holds 100 frames",
             14 => "the variance's numerator is 2^53 or more",
-            20 => "the stream ends inside this field or before it",
-            21 => "this field has another tag than the next due (1 to 7, then 0)",
-            22 => "this field's length is not the one needed",
+            20 => "the stream ends inside the field that is due here, or before it",
+            21 => "the field that begins here has another tag than the next due (1 to 7, then 0)",
+            22 => "the length of the field that begins here is not the one needed",
             23 => "bytes follow the stream's field 0",
             24 => "a side of the stream's window is above 64 sites",
             _ => "no call gives this number",

@@ -398,7 +398,7 @@ fn refusals_in_words() {
 
     let begins = |number, text| Refusal { number, place: 3 }.to_string().starts_with(text);
     assert!(begins(6, "refused 6 at site 3: a surveyed sample"));
-    assert!(begins(22, "refused 22 at byte 3: this field's length"));
+    assert!(begins(22, "refused 22 at byte 3: the length of the field that begins here"));
     assert!(begins(12, "refused 12: the stack is full"));
     // an answer can go where any error goes
     let error: Box<dyn std::error::Error> = Box::new(pair_noise(SMALL, &[], &[], &[]).unwrap_err());
