@@ -8,16 +8,17 @@ use native.Mathlib.Nat.{le-refl}
 use native.Mathlib.Omega.{arith}
 use lib.ListN.{length, getD, set, List·getD-eq-default}
 use borrow.Author.Tests.{eqb-true, eqb-false}
+use Rattle.laws.specs.Sum.{sumTo}
 use Rattle.laws.specs.Table.{tabulate}
-use Rattle.laws.proofs.Cases.{lt-or-ge, true-or-false}
+use Rattle.laws.proofs.Cases.{lt-or-ge, true-or-false, times-le}
 use Rattle.laws.proofs.Firsts.{some-none, some-more}
-use Rattle.laws.proofs.Sums.{sum-none, sum-more}
+use Rattle.laws.proofs.Sums.{sum-more, sum-ext, sum-scaled, sum-add, sum-times}
 use Rattle.laws.proofs.Tables.{Filling, filling-rest, filling-more, length-tabulate, getD-tabulate}
 use Rattle.window.specs.View.{surveyed, seenAt, seen}
 use Rattle.window.specs.Verdict.{refuseIf}
 use Rattle.window.specs.declared.Verdict.the-variants.{Clear}
 use Rattle.window.proofs.Views.{seen-is, seen-in}
-use Rattle.stack.specs.Sums.{impossible, impossibleAt, impossibleIn, added, spread}
+use Rattle.stack.specs.Sums.{impossible, impossibleAt, impossibleIn, squared, added, spread}
 use Rattle.stack.specs.Walk.{readable}
 
 -- adding: what stands at the site still is what stood there, so the sum that is stored is the one that is defined
@@ -45,24 +46,34 @@ asked-more full k mask sums squares i s q found here f e p r =
     ap₂ _||_ f (e ∙ ap₂ (impossible full k) (p ∙ sym (seen-is mask sums i)) (r ∙ sym (seen-is mask squares i)))
     ∙ some-more (impossibleAt full k (seen mask sums) (seen mask squares)) i
 
--- where s² is not above k × q at a site, it is not of its two sums as they are seen
-pub leaves-none : (k : ℕ) (mask sums squares : List ℕ) (i s q : ℕ) → seen mask sums i * seen mask sums i ≤ k * seen mask squares i
-    → s ≡ seenAt (getD mask i 0) (getD sums i 0) → q ≡ seenAt (getD mask i 0) (getD squares i 0) → s * s ≤ k * q
-leaves-none k mask sums squares i s q h p r = rw (p, r, ← seen-is mask sums i, ← seen-is mask squares i) h
+-- where no s² is above its k × q, the numerator is k times the sum of q, less that of s²
+module _ (n k : ℕ) (s q : ℕ → ℕ) (h : (i : ℕ) → i < n → s i * s i ≤ k * q i) where
+  less-than-whole : sumTo n (squared s) ≤ k * sumTo n q
+  less-than-whole = sum-scaled n k q (squared s) h
 
--- one turn of the numerator
-pub spread-none : (k : ℕ) (s q : ℕ → ℕ) → 0 ≡ spread 0 k s q
-unfolding spread
-spread-none k s q = sum-none (λ (i : ℕ). k * q i - s i * s i)
+  spread-is : k * sumTo n q - sumTo n (squared s) ≡ spread n k s q
+  unfolding spread
+  spread-is =
+      let apart : sumTo n (λ (i : ℕ). k * q i - s i * s i + s i * s i) ≡ sumTo n (λ (i : ℕ). k * q i) = sum-ext n _ _ (λ i l. omega (arith, h i l)) in
+      omega (arith, apart, sum-add n (λ (i : ℕ). k * q i - s i * s i) (squared s), sum-times n k q)
 
-pub spread-more : (k : ℕ) (mask sums squares : List ℕ) (i total s q e : ℕ)
-    → total ≡ spread i k (seen mask sums) (seen mask squares)
-    → e ≡ k * q - s * s → s ≡ seenAt (getD mask i 0) (getD sums i 0) → q ≡ seenAt (getD mask i 0) (getD squares i 0)
-    → total + e ≡ spread (i + 1) k (seen mask sums) (seen mask squares)
-unfolding spread
-spread-more k mask sums squares i total s q e t x p r =
-    rw (t, x, p, r, ← seen-is mask sums i, ← seen-is mask squares i)
-    (sum-more i (λ (j : ℕ). k * seen mask squares j - seen mask sums j * seen mask sums j))
+  -- of both sums at the end of the walk
+  pub spread-of : (i a b : ℕ) → i ≡ n → a ≡ sumTo i (squared s) → b ≡ sumTo i q → (a ≤ k * b) × (k * b - a ≡ spread n k s q)
+  spread-of i a b e p r = rw (p, r, e) (less-than-whole, spread-is)
+
+-- s² at a site is no more than 100 frames' squares can be
+pub square-small : (k : ℕ) (mask sums squares : List ℕ) (i s q : ℕ) → k ≤ 100 → q ≤ 4294967295
+    → seen mask sums i * seen mask sums i ≤ k * seen mask squares i
+    → s ≡ seenAt (getD mask i 0) (getD sums i 0) → q ≡ seenAt (getD mask i 0) (getD squares i 0) → s * s ≤ 100 * 4294967295
+square-small k mask sums squares i s q most small h p r =
+    let above : s * s ≤ k * q = rw (p, r, ← seen-is mask sums i, ← seen-is mask squares i) h in
+    omega (arith, times-le k q 100 4294967295 most small)
+
+-- a turn of either sum, of a sum as it is seen
+pub seen-more : (f : ℕ → ℕ) (mask list : List ℕ) (i total v : ℕ) → total ≡ sumTo i (λ (j : ℕ). f (seen mask list j))
+    → v ≡ seenAt (getD mask i 0) (getD list i 0) → total + f v ≡ sumTo (i + 1) (λ (j : ℕ). f (seen mask list j))
+seen-more f mask list i total v t p =
+    rw (t, p, ← seen-is mask list i) (sum-more i (λ (j : ℕ). f (seen mask list j)))
 
 module _ (full k : ℕ) (mask sums squares : List ℕ) where
   -- 11 is asked of sums that can be read

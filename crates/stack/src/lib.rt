@@ -182,29 +182,21 @@ fn too_few(sites: u64, frames: u64) -> bool
     sites == 0 || frames < 2
 }
 
-// k × q − s² at a site.
-fn excess(frames: u64, sum: u32, square: u32) -> u64
-    requires { ⌜ (frames ≤ 100) × (sum * sum ≤ frames * square) ⌝ }
-    ensures { λ r. ⌜ (r ≡ frames * square - sum * sum) × (r ≤ 100 * 4294967295) ⌝ }
-{
-    let whole = frames * (square as u64);
-    let taken = (sum as u64) * (sum as u64);
-    whole - taken
-}
-
-// The sum of k × q − s² over the surveyed sites, of sums that 11 does not refuse.
+// The sum of k × q − s² over the surveyed sites, of sums that 11 does not refuse: k times the sum of q, less that of s².
 fn spread(frames: u64, mask: &[u8], sums: &[u32], squares: &[u32]) -> u64
     requires { ⌜ (frames ≤ 100) × (length (now mask) ≤ 16384) × (length (now sums) ≡ length (now mask)) × (length (now squares) ≡ length (now mask))
         × ((i : ℕ) → i < length (now mask) → seen (now mask) (now sums) i * seen (now mask) (now sums) i ≤ frames * seen (now mask) (now squares) i) ⌝ }
     ensures { λ r. ⌜ r ≡ spread (length (now (mask .entry))) frames (seen (now (mask .entry)) (now (sums .entry))) (seen (now (mask .entry)) (now (squares .entry))) ⌝ }
 {
-    let mut total: u64 = 0;
+    let mut of_sums: u64 = 0;
+    let mut of_squares: u64 = 0;
     for i in 0..mask.len() {
-        let sum = sum_at(mask[i], sums[i]);
-        let square = sum_at(mask[i], squares[i]);
-        total += excess(frames, sum, square);
+        let sum = sum_at(mask[i], sums[i]) as u64;
+        let square = sum_at(mask[i], squares[i]) as u64;
+        of_sums += sum * sum;
+        of_squares += square;
     }
-    total
+    frames * of_squares - of_sums
 }
 
 // Refusals 1 to 5, 7 and 11 of a stack with this many surveyed sites.

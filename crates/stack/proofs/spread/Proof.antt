@@ -1,23 +1,39 @@
--- `spread` is right because each turn adds one site's k × q − s², of the sums as they are seen there.
-use Prim.Native.Nat.{ℕ, _*_, _-_, _≤_}
-use mathlib.Core.Path.{_≡_, ap, _∙_}
+-- `spread` is right because each turn adds one site's s² and q, as they are seen there, and no s² is above its k × q.
+use Prim.Native.Nat.{ℕ, _-_, _*_, _≤_}
+use mathlib.Core.Path.{_≡_}
 use native.Mathlib.Omega.{arith}
 use lib.ListN.{length}
 use borrow.Author.Needs.{needs}
-use Rattle.stack.proofs.Turns.{leaves-none, spread-none, spread-more}
-use Rattle.stack.specs.Sums.{spread}
+use Rattle.laws.specs.Sum.{sumTo}
+use Rattle.laws.proofs.Cases.{times-le}
+use Rattle.laws.proofs.Sums.{sum-none}
 use Rattle.window.specs.View.{seen}
+use Rattle.stack.specs.Sums.{squared, spread}
+use Rattle.stack.proofs.Turns.{spread-of, square-small, seen-more}
 use Rattle.stack.proofs.spread.Statement.{statement}
 use Rattle.stack.proofs.spread.Tie as tie
 
 abbrev Inv-loop : tie.InvT-loop
-Inv-loop frames mask sums squares total₀ i₀ i-end total i = (i ≤ length mask) × (total ≤ i * (100 * 4294967295)) × (total ≡ spread i frames (seen mask sums) (seen mask squares))
+Inv-loop frames mask sums squares of-sums₀ of-squares₀ i₀ i-end of-sums of-squares i =
+    (i ≤ length mask) × (of-sums ≤ i * (100 * 4294967295)) × (of-squares ≤ i * 4294967295)
+    × (of-sums ≡ sumTo i (squared (seen mask sums))) × (of-squares ≡ sumTo i (seen mask squares))
 
 abbrev μ-loop : tie.MeasureT-loop
-μ-loop frames mask sums squares total₀ i₀ i-end total i = length mask - i
+μ-loop frames mask sums squares of-sums₀ of-squares₀ i₀ i-end of-sums of-squares i = length mask - i
+
+abbrev Begun : tie.At-loop Inv-loop μ-loop → tie.Start Inv-loop μ-loop
+Begun c = c .before .before .before .before
+
+abbrev Turn : tie.After-sum-at2 Inv-loop μ-loop → tie.At-loop Inv-loop μ-loop
+Turn c = c .before .before .before .before .before .before .before
+
+small : (c : tie.After-sum-at2 Inv-loop μ-loop) → c .before .before .before .sum-at .result * c .before .before .before .sum-at .result ≤ 100 * 4294967295
+small c = let l = Turn c in
+    let s = Begun l in
+    square-small (s .args .frames) (s .args .mask .now) (s .args .sums .now) (s .args .squares .now) (l .loop .i) _ _ (omega arith) (omega arith) (s .pre .4 (l .loop .i) (omega arith)) (c .before .before .before .sum-at .ensures) (c .sum-at2 .ensures)
 
 loop-holds : tie.Need-loop-holds Inv-loop μ-loop
-loop-holds c = (omega arith, omega arith, spread-none _ _ _)
+loop-holds c = (omega arith, omega arith, omega arith, sum-none _, sum-none _)
 
 shared-slice-read-sum-at : tie.Need-shared-slice-read-sum-at Inv-loop μ-loop
 shared-slice-read-sum-at c = omega arith
@@ -43,13 +59,20 @@ shared-slice-read-sum-at-4 c = omega arith
 sum-at-requires-2 : tie.Need-sum-at-requires-2 Inv-loop μ-loop
 sum-at-requires-2 c κs = search needs
 
-excess-requires : tie.Need-excess-requires Inv-loop μ-loop
-excess-requires c κs = let l = c .before .before .before .before .before .before .before in
-    let s = l .before .before .before .before in
-    (omega arith, leaves-none (s .args .frames) (s .args .mask .now) (s .args .sums .now) (s .args .squares .now) (l .loop .i) _ _ (s .pre .4 (l .loop .i) (omega arith)) (c .before .before .before .sum-at .ensures) (c .sum-at2 .ensures))
+cast-sum : tie.Need-cast-sum Inv-loop μ-loop
+cast-sum c = search needs
 
-add-total : tie.Need-add-total Inv-loop μ-loop
-add-total c = omega arith
+cast-square : tie.Need-cast-square Inv-loop μ-loop
+cast-square c = search needs
+
+mul-of-sums : tie.Need-mul-of-sums Inv-loop μ-loop
+mul-of-sums c = omega (arith, small c)
+
+add-of-sums : tie.Need-add-of-sums Inv-loop μ-loop
+add-of-sums c = omega (arith, small c)
+
+add-of-squares : tie.Need-add-of-squares Inv-loop μ-loop
+add-of-squares c = omega arith
 
 add-i : tie.Need-add-i Inv-loop μ-loop
 add-i c = omega arith
@@ -58,17 +81,33 @@ loop-less : tie.Need-loop-less Inv-loop μ-loop
 loop-less c = omega arith
 
 loop-again : tie.Need-loop-again Inv-loop μ-loop
-loop-again c = let l = c .before .before .before .before .before .before .before .before in
-    let args = l .before .before .before .before .args in (
+loop-again c = let l = Turn c in
+    let s = Begun l in (
       omega arith,
+      omega (arith, small c),
       omega arith,
-      spread-more (args .frames) (args .mask .now) (args .sums .now) (args .squares .now) (l .loop .i) _ _ _ _ (l .loop .inv .2) (c .excess .ensures .0) (c .before .before .before .before .sum-at .ensures) (c .before .sum-at2 .ensures),
+      seen-more (λ (v : ℕ). v * v) (s .args .mask .now) (s .args .sums .now) (l .loop .i) _ _ (l .loop .inv .3) (c .before .before .before .sum-at .ensures),
+      seen-more (λ (v : ℕ). v) (s .args .mask .now) (s .args .squares .now) (l .loop .i) _ _ (l .loop .inv .4) (c .sum-at2 .ensures),
     )
 
+ended : (c : tie.After-loop Inv-loop μ-loop)
+    → (c .before .loop .of-sums ≤ Begun (c .before) .args .frames * c .before .loop .of-squares)
+    × (Begun (c .before) .args .frames * c .before .loop .of-squares - c .before .loop .of-sums
+    ≡ spread (length (Begun (c .before) .args .mask .now)) (Begun (c .before) .args .frames) (seen (Begun (c .before) .args .mask .now) (Begun (c .before) .args .sums .now)) (seen (Begun (c .before) .args .mask .now) (Begun (c .before) .args .squares .now)))
+ended c = let l = c .before in
+    let s = Begun l in
+    spread-of (length (s .args .mask .now)) (s .args .frames) (seen (s .args .mask .now) (s .args .sums .now)) (seen (s .args .mask .now) (s .args .squares .now)) (s .pre .4)
+    (l .loop .i) (l .loop .of-sums) (l .loop .of-squares) (omega arith) (l .loop .inv .3) (l .loop .inv .4)
+
+mul-result : tie.Need-mul-result Inv-loop μ-loop
+mul-result c = let s = Begun (c .before) in
+    omega (arith, times-le (s .args .frames) (c .before .loop .of-squares) 100 (16384 * 4294967295) (omega arith) (omega arith))
+
+sub-result : tie.Need-sub-result Inv-loop μ-loop
+sub-result c = ended c .0
+
 returns : tie.Need-returns Inv-loop μ-loop
-returns c = let args = c .before .before .before .before .before .args in
-    let e : c .before .loop .i ≡ length (args .mask .now) = omega arith in
-    c .before .loop .inv .2 ∙ ap (λ (n : ℕ). spread n (args .frames) (seen (args .mask .now) (args .sums .now)) (seen (args .mask .now) (args .squares .now))) e
+returns c = ended c .1
 
 pub spread-spec : {M : Type 1} → statement M
 spread-spec =
@@ -81,13 +120,18 @@ spread-spec =
     mul-sum-at
     shared-slice-read-sum-at-2
     sum-at-requires
+    cast-sum
     shared-slice-read-sum-at-3
     mul-sum-at-2
     shared-slice-read-sum-at-4
     sum-at-requires-2
-    excess-requires
-    add-total
+    cast-square
+    mul-of-sums
+    add-of-sums
+    add-of-squares
     add-i
     loop-less
     loop-again
+    mul-result
+    sub-result
     returns)
