@@ -1,13 +1,13 @@
 -- What one turn of each loop does, over plain values.
 use Prim.Native.Nat.{ℕ, _+_, _-_, _*_, _^_, _≤_, _<_}
-use mathlib.Core.Bool.{Bool, true, false, _&&_, _||_}
+use mathlib.Core.Bool.{Bool, true, false, cond, _&&_, _||_}
 use mathlib.Core.Logic.{⊎-elim}
 use mathlib.Core.List.{List}
-use mathlib.Core.Path.{_≡_, sym, ap, ap₂, _∙_}
+use mathlib.Core.Path.{_≡_, refl, sym, ap, ap₂, _∙_}
 use native.Mathlib.Nat.{le-refl}
 use native.Mathlib.Omega.{arith}
 use lib.ListN.{length, getD, set, List·getD-eq-default}
-use borrow.Author.Tests.{eqb-true, eqb-false}
+use borrow.Author.Tests.{eqb-true, eqb-false, le-ltb}
 use Rattle.laws.specs.Sum.{sumTo}
 use Rattle.laws.specs.Table.{tabulate}
 use Rattle.laws.proofs.Cases.{lt-or-ge, true-or-false, times-le}
@@ -32,18 +32,28 @@ module _ (view : ℕ → ℕ) {d l : List ℕ} {i v : ℕ} (so-far : Filling (λ
   pub one-added : i < length l → Filling (λ (k : ℕ). getD d k 0 + view k) d (set l i (getD l i 0 + v)) (i + 1)
   one-added h = filling-more (getD l i 0 + v) so-far h stored
 
--- one turn of 11: what is asked of two sums as they are seen is what is asked of their site
+-- 11 of two sums as they are seen: never met where they are not surveyed
+asked-seen : (full k code s q : ℕ) → (surveyed code && impossible full k s q) ≡ impossible full k (seenAt code s) (seenAt code q)
+unfolding seenAt impossible
+asked-seen full k code s q = by (surveyed code)
+  where
+    by : (b : Bool) → (b && impossible full k s q) ≡ impossible full k (cond b s 0) (cond b q 0)
+    by true = refl
+    by false = rw (le-ltb (k * full) 0 (omega arith), le-ltb (k * (full * full)) 0 (omega arith), le-ltb (k * 0) (0 * 0) (omega arith))
+
+-- one turn of 11
 pub asked-none : (full k : ℕ) (s q : ℕ → ℕ) → false ≡ impossibleIn 0 full k s q
 unfolding impossibleIn
 asked-none full k s q = sym (some-none _)
 
-pub asked-more : (full k : ℕ) (mask sums squares : List ℕ) (i s q : ℕ) (found here : Bool)
+pub asked-more : (full k : ℕ) (mask sums squares : List ℕ) (i : ℕ) (found odd : Bool)
     → found ≡ impossibleIn i full k (seen mask sums) (seen mask squares)
-    → here ≡ impossible full k s q → s ≡ seenAt (getD mask i 0) (getD sums i 0) → q ≡ seenAt (getD mask i 0) (getD squares i 0)
-    → (found || here) ≡ impossibleIn (i + 1) full k (seen mask sums) (seen mask squares)
+    → odd ≡ impossible full k (getD sums i 0) (getD squares i 0)
+    → (found || surveyed (getD mask i 0) && odd) ≡ impossibleIn (i + 1) full k (seen mask sums) (seen mask squares)
 unfolding impossibleIn
-asked-more full k mask sums squares i s q found here f e p r =
-    ap₂ _||_ f (e ∙ ap₂ (impossible full k) (p ∙ sym (seen-is mask sums i)) (r ∙ sym (seen-is mask squares i)))
+asked-more full k mask sums squares i found odd f e =
+    ap₂ _||_ f (ap (λ (b : Bool). surveyed (getD mask i 0) && b) e ∙ asked-seen full k (getD mask i 0) (getD sums i 0) (getD squares i 0)
+    ∙ ap₂ (impossible full k) (sym (seen-is mask sums i)) (sym (seen-is mask squares i)))
     ∙ some-more (impossibleAt full k (seen mask sums) (seen mask squares)) i
 
 -- where no s² is above its k × q, the numerator is k times the sum of q, less that of s²

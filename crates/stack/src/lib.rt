@@ -72,9 +72,8 @@ fn some_impossible(full_scale: u64, frames: u64, mask: &[u8], sums: &[u32], squa
 {
     let mut found = false;
     for i in 0..mask.len() {
-        let sum = sum_at(mask[i], sums[i]);
-        let square = sum_at(mask[i], squares[i]);
-        found = found | impossible(full_scale, frames, sum, square);
+        let odd = impossible(full_scale, frames, sums[i], squares[i]);
+        found = found | ((mask[i] == 0) & odd);
     }
     found
 }

@@ -28,32 +28,23 @@ legal c = readable-is _ _ _ _ _ (Begun c .pre)
 loop-holds : tie.Need-loop-holds Inv-loop μ-loop
 loop-holds c = (omega arith, refl, asked-none _ _ _ _)
 
-shared-slice-read-sum-at : tie.Need-shared-slice-read-sum-at Inv-loop μ-loop
-shared-slice-read-sum-at c = search needs
+mul-impossible : tie.Need-mul-impossible Inv-loop μ-loop
+mul-impossible c = omega (arith, legal c)
 
-mul-sum-at : tie.Need-mul-sum-at Inv-loop μ-loop
-mul-sum-at c = omega (arith, legal (c .before))
+shared-slice-read-impossible : tie.Need-shared-slice-read-impossible Inv-loop μ-loop
+shared-slice-read-impossible c = omega (arith, legal (c .before) .long)
 
-shared-slice-read-sum-at-2 : tie.Need-shared-slice-read-sum-at-2 Inv-loop μ-loop
-shared-slice-read-sum-at-2 c = omega (arith, legal (c .before .before) .long)
+mul-impossible-2 : tie.Need-mul-impossible-2 Inv-loop μ-loop
+mul-impossible-2 c = omega (arith, legal (c .before))
 
-sum-at-requires : tie.Need-sum-at-requires Inv-loop μ-loop
-sum-at-requires c κs = search needs
-
-shared-slice-read-sum-at-3 : tie.Need-shared-slice-read-sum-at-3 Inv-loop μ-loop
-shared-slice-read-sum-at-3 c = search needs
-
-mul-sum-at-2 : tie.Need-mul-sum-at-2 Inv-loop μ-loop
-mul-sum-at-2 c = omega (arith, legal (c .before .before .before .before) .square-long)
-
-shared-slice-read-sum-at-4 : tie.Need-shared-slice-read-sum-at-4 Inv-loop μ-loop
-shared-slice-read-sum-at-4 c = omega (arith, legal (c .before .before .before .before .before) .square-long)
-
-sum-at-requires-2 : tie.Need-sum-at-requires-2 Inv-loop μ-loop
-sum-at-requires-2 c κs = search needs
+shared-slice-read-impossible-2 : tie.Need-shared-slice-read-impossible-2 Inv-loop μ-loop
+shared-slice-read-impossible-2 c = omega (arith, legal (c .before .before) .square-long)
 
 impossible-requires : tie.Need-impossible-requires Inv-loop μ-loop
-impossible-requires c κs = let r = legal (c .before .before .before .before .before .before) in (r .scale, r .count)
+impossible-requires c κs = let r = legal (c .before .before) in (r .scale, r .count)
+
+shared-slice-read-found : tie.Need-shared-slice-read-found Inv-loop μ-loop
+shared-slice-read-found c = search needs
 
 add-i : tie.Need-add-i Inv-loop μ-loop
 add-i c = search needs
@@ -62,8 +53,8 @@ loop-less : tie.Need-loop-less Inv-loop μ-loop
 loop-less c = search needs
 
 loop-again : tie.Need-loop-again Inv-loop μ-loop
-loop-again c = let l = c .before .before .before .before .before .before .before .before in
-    (omega arith, refl, asked-more _ _ _ _ _ _ _ _ _ _ (l .loop .inv .2) (c .impossible .ensures) (c .before .before .before .before .sum-at .ensures) (c .before .sum-at2 .ensures))
+loop-again c = let l = c .before .before .before .before .before in
+    (omega arith, refl, asked-more _ _ _ _ _ _ _ _ (l .loop .inv .2) (c .before .impossible .ensures))
 
 returns : tie.Need-returns Inv-loop μ-loop
 returns c = let a = c .before .before .before .before .before .args in
@@ -77,15 +68,12 @@ some-impossible-spec =
     Inv-loop
     μ-loop
     loop-holds
-    shared-slice-read-sum-at
-    mul-sum-at
-    shared-slice-read-sum-at-2
-    sum-at-requires
-    shared-slice-read-sum-at-3
-    mul-sum-at-2
-    shared-slice-read-sum-at-4
-    sum-at-requires-2
+    mul-impossible
+    shared-slice-read-impossible
+    mul-impossible-2
+    shared-slice-read-impossible-2
     impossible-requires
+    shared-slice-read-found
     add-i
     loop-less
     loop-again
