@@ -1,17 +1,17 @@
 -- The tests in the order of document 01, why the code may ask the later ones of whole buffers, and what an accepted call has passed.
-use Prim.Native.Nat.{ℕ, _*_, _<_, _≤_}
-use mathlib.Core.Bool.{Bool, false}
+use Prim.Native.Nat.{ℕ, zero, suc, _*_, _<_, _≤_}
+use mathlib.Core.Bool.{Bool, false, not}
 use mathlib.Core.List.{List, [], _∷_}
 use mathlib.Core.Path.{_≡_, refl, sym, ap, ap₂, _∙_}
 use native.Mathlib.Omega.{arith}
 use lib.Dec.{ltb}
 use lib.ListN.{length, getD}
-use borrow.Author.Tests.{eqb-true, ltb-false, not-false}
+use borrow.Author.Tests.{eqb-true, lt-ltb, ltb-false, ne-eqb, not-false}
 use Rattle.window.proofs.Sides.{frame-count, Sides, Scale, sides, scale}
 use Rattle.window.specs.Shape.{badCount, badSides, badScale, sitesOf}
 use Rattle.laws.specs.First.{someTo}
 use Rattle.laws.proofs.Firsts.{first-nowhere, first-ext}
-use Rattle.window.specs.View.{badCode, surveyed, seen, above}
+use Rattle.window.specs.View.{codeAbove, badCode, surveyed, seen, above}
 use Rattle.window.specs.Verdict.{_⨟_, refuseIf, refuseFirst}
 use Rattle.window.specs.Judge.{shapeOf, otherThan, codesOf, walked}
 use Rattle.window.specs.declared.Refusal.{Refusal}
@@ -26,6 +26,14 @@ use Rattle.pattern.specs.declared.Figures.{Figures}
 use Rattle.pattern.specs.declared.Pattern.the-variants.{Measured, Refused}
 use Rattle.pattern.proofs.Totals.{count-is, total-ext}
 use Rattle.pattern.proofs.Figuring.{figures-ext}
+
+-- a code is above 0 where it is not surveyed
+pub some-unsurveyed : (n : ℕ) (mask : List ℕ) → someTo n (codeAbove 0 mask) ≡ someTo n (unsurveyed mask)
+some-unsurveyed n mask = ap (λ (i : ℕ). ltb i n) (first-ext n (codeAbove 0 mask) (unsurveyed mask) (λ i l. by (getD mask i 0)))
+  where
+    by : (code : ℕ) → ltb 0 code ≡ not (surveyed code)
+    by zero = refl
+    by (suc code) = rw (lt-ltb 0 (suc code) (omega arith), ne-eqb (suc code) 0 (λ e. omega arith))
 
 -- 8 does not apply: every code is 0
 pub all-surveyed : (n : ℕ) (mask : List ℕ) → someTo n (unsurveyed mask) ≡ false → (i : ℕ) → i < n → getD mask i 0 ≡ 0
@@ -44,7 +52,7 @@ module _ (vertical : Bool) (w h full k : ℕ) (mask sums : List ℕ) where
       ⨟ refuseIf 4 0 (otherThan (sitesOf w h) (length mask))
       ⨟ refuseIf 4 0 (otherThan (sitesOf w h) (length sums))
       ⨟ codesOf (walked w h (length mask)) mask
-      ⨟ refuseIf 8 0 (someTo (length mask) (unsurveyed mask))
+      ⨟ refuseIf 8 0 (someTo (length mask) (codeAbove 0 mask))
       ⨟ refuseIf 9 0 (ltb (lineOf vertical h w) 12)
       ⨟ refuseIf 11 0 (someTo (length sums) (above most (held sums)))
       ≡ patternVerdict (lined vertical) w h full k mask sums
@@ -55,7 +63,7 @@ module _ (vertical : Bool) (w h full k : ℕ) (mask sums : List ℕ) where
       measured (sitesOf w h) (length mask) (λ m.
       measured (sitesOf w h) (length sums) (λ l.
       ap₂ _⨟_ (codes-whole w h mask m)
-      (rw (m, l, count-is vertical w h)
+      (rw (some-unsurveyed (length mask) mask, m, l, count-is vertical w h)
       (then-same (refuseIf 8 0 (someTo (sitesOf w h) (unsurveyed mask))) (λ u.
       ap (λ (n : ℕ). refuseIf 9 0 (ltb (lineOf vertical h w) 12) ⨟ refuseIf 11 0 (ltb n (sitesOf w h)))
       (first-ext (sitesOf w h) (above most (held sums)) (above (k * full) (seen mask sums))

@@ -10,7 +10,7 @@ ghost use Rattle.laws.specs.Greatest.{greater};
 ghost use Rattle.window.specs.View.{above};
 ghost use Rattle.pattern.specs.Lines.{columns, rows};
 ghost use Rattle.pattern.specs.Figures.{levelOf, standsOut, deviation, maxOf, figuresOf};
-ghost use Rattle.pattern.specs.Pattern.{unsurveyed, patternVerdict, patternFigures, patternAnswer, paperOf, patternPaper};
+ghost use Rattle.pattern.specs.Pattern.{patternVerdict, patternFigures, patternAnswer, paperOf, patternPaper};
 ghost use Rattle.pattern.specs.Walk.{lined, lineOf, held, withRow, Possible, Accepted};
 use window::Refusal;
 use window::Verdict;
@@ -45,17 +45,6 @@ fn wide(sum: u32) -> u64
     ensures { λ r. ⌜ (r ≡ sum) × (r ≤ 4294967295) ⌝ }
 {
     sum as u64
-}
-
-// Whether some code is not 0.
-fn some_unsurveyed(mask: &[u8]) -> bool
-    ensures { λ r. ⌜ r ≡ someTo (length (now (mask .entry))) (unsurveyed (now (mask .entry))) ⌝ }
-{
-    let mut found = false;
-    for i in 0..mask.len() {
-        found = found | (mask[i] != 0);
-    }
-    found
 }
 
 // Whether some sum is above the most that it can be.
@@ -94,7 +83,7 @@ fn judge(
     let masked = window::refuse_if(4, 0, mask.len() != n);
     let summed = window::refuse_if(4, 0, sums.len() != n);
     let codes = window::codes(width, height, mask);
-    let unsurveyed = window::refuse_if(8, 0, some_unsurveyed(mask));
+    let unsurveyed = window::refuse_if(8, 0, window::some_code_above(0, mask));
     let small = window::refuse_if(9, 0, line_of(vertical, height, width) < 12);
     let impossible = window::refuse_if(11, 0, some_above(most(full_scale, frames), sums));
     let sites = window::then(

@@ -15,9 +15,13 @@ defect = 2
 abbrev pub filled : ℕ
 filled = 3
 
+-- a code above another
+abbrev pub codeAbove : ℕ → List ℕ → ℕ → Bool
+codeAbove code mask i = ltb code (getD mask i 0)
+
 -- a code above 3
 abbrev pub badCode : List ℕ → ℕ → Bool
-badCode mask i = ltb 3 (getD mask i 0)
+badCode mask i = codeAbove 3 mask i
 
 -- a value at a site of this code: 0 where it is not surveyed
 unfoldable pub seenAt : ℕ → ℕ → ℕ

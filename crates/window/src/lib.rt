@@ -6,7 +6,7 @@ ghost use lib.ListN.{length};
 ghost use Rattle.laws.specs.First.{firstTo, someTo};
 ghost use Rattle.laws.specs.Sum.{sumTo, sumIn, sumBox};
 ghost use Rattle.window.specs.Shape.{badSide, badSides, badScale, badCount, sitesOf};
-ghost use Rattle.window.specs.View.{badCode, seenAt, seen, one, above};
+ghost use Rattle.window.specs.View.{codeAbove, badCode, seenAt, seen, one, above};
 ghost use Rattle.window.specs.Verdict.{_⨟_, refuseIf};
 ghost use Rattle.window.specs.Judge.{shapeOf, codesOf, samplesOf, walked};
 ghost use Rattle.window.specs.Plane.{siteAt, boxSums};
@@ -166,13 +166,13 @@ fn first_over(width: usize, height: usize, full_scale: u64, mask: &[u8], frame: 
     site
 }
 
-// Whether some code is above 3: a walk with no way out, which takes far less time than the search for the place.
-fn some_bad_code(mask: &[u8]) -> bool
-    ensures { λ r. ⌜ r ≡ someTo (length (now (mask .entry))) (badCode (now (mask .entry))) ⌝ }
+// Whether some code is above another: a walk with no way out, which takes far less time than a search for the place.
+pub fn some_code_above(code: u8, mask: &[u8]) -> bool
+    ensures { λ r. ⌜ r ≡ someTo (length (now (mask .entry))) (codeAbove code (now (mask .entry))) ⌝ }
 {
     let mut found = false;
     for i in 0..mask.len() {
-        found = found | (3 < mask[i]);
+        found = found | (code < mask[i]);
     }
     found
 }
@@ -216,7 +216,7 @@ pub fn codes(width: usize, height: usize, mask: &[u8]) -> Verdict
     if n == 0 {
         return Verdict::Clear;
     }
-    if !some_bad_code(mask) {
+    if !some_code_above(3, mask) {
         return Verdict::Clear;
     }
     let place = first_bad_code(width, height, mask);

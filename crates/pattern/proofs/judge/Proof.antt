@@ -1,10 +1,11 @@
+-- `judge` is right because it asks the definition's tests in its order, and what it asks of buffers of another length comes after 4.
 use Prim.Native.Nat.{ℕ}
-use mathlib.Core.Path.{ap, ap₂, _∙_}
+use mathlib.Core.Path.{ap, _∙_}
 use lib.Dec.{ltb}
-use lib.ListN.{length}
 use borrow.Author.Needs.{needs}
-use Rattle.window.specs.Verdict.{_⨟_, refuseIf}
-use Rattle.window.specs.Judge.{otherThan}
+use Rattle.window.specs.Verdict.{refuseIf}
+use Rattle.window.proofs.Verdicts.{then-of}
+use Rattle.window.proofs.Chains.{length-told}
 use Rattle.pattern.proofs.Judges.{judged}
 use Rattle.pattern.proofs.judge.Statement.{statement}
 use Rattle.pattern.proofs.judge.Tie as tie
@@ -30,8 +31,8 @@ refuse-if-requires-3 c κs = search needs
 codes-requires : tie.Need-codes-requires
 codes-requires c κs = search needs
 
-some-unsurveyed-requires : tie.Need-some-unsurveyed-requires
-some-unsurveyed-requires c κs = search needs
+some-code-above-requires : tie.Need-some-code-above-requires
+some-code-above-requires c κs = search needs
 
 refuse-if-requires-4 : tie.Need-refuse-if-requires-4
 refuse-if-requires-4 c κs = search needs
@@ -79,19 +80,16 @@ returns c =
     let fourteen = twelve .before .before in
     let sized = fourteen .before .before .before .before .before .before in
     let s = sized .before .before .before in
-    let count = fourteen .before .before .before .refuse-if .ensures ∙ ap (refuseIf 3 0) (fourteen .before .before .before .before .bad-count .ensures) in
-    let masked = fourteen .before .before .refuse-if2 .ensures ∙ ap (λ (n : ℕ). refuseIf 4 0 (otherThan n (length (s .args .mask .now)))) (sized .sites .ensures .0) in
-    let summed = fourteen .before .refuse-if3 .ensures ∙ ap (λ (n : ℕ). refuseIf 4 0 (otherThan n (length (s .args .sums .now)))) (sized .sites .ensures .0) in
-    let unsurveyed = twelve .refuse-if4 .ensures ∙ ap (refuseIf 8 0) (twelve .before .some-unsurveyed .ensures) in
-    let small = seven .before .before .before .refuse-if5 .ensures ∙ ap (λ (n : ℕ). refuseIf 9 0 (ltb n 12)) (seven .before .before .before .before .line-of .ensures) in
-    let impossible = seven .refuse-if6 .ensures ∙ ap (refuseIf 11 0) (seven .before .some-above .ensures) in
-    c .then7 .ensures
-    ∙ ap₂ _⨟_ (fourteen .before .before .before .before .before .shape .ensures) (c .before .then6 .ensures
-    ∙ ap₂ _⨟_ count (c .before .before .then5 .ensures
-    ∙ ap₂ _⨟_ masked (c .before .before .before .then4 .ensures
-    ∙ ap₂ _⨟_ summed (c .before .before .before .before .then3 .ensures
-    ∙ ap₂ _⨟_ (fourteen .codes .ensures) (c .before .before .before .before .before .then2 .ensures
-    ∙ ap₂ _⨟_ unsurveyed (c .before .before .before .before .before .before .then .ensures ∙ ap₂ _⨟_ small impossible))))))
+    let n = sized .sites .ensures .0 in
+    then-of (c .then7 .ensures) (fourteen .before .before .before .before .before .shape .ensures)
+    (then-of (c .before .then6 .ensures) (fourteen .before .before .before .refuse-if .ensures ∙ ap (refuseIf 3 0) (fourteen .before .before .before .before .bad-count .ensures))
+    (then-of (c .before .before .then5 .ensures) (length-told _ _ _ n (fourteen .before .before .refuse-if2 .ensures))
+    (then-of (c .before .before .before .then4 .ensures) (length-told _ _ _ n (fourteen .before .refuse-if3 .ensures))
+    (then-of (c .before .before .before .before .then3 .ensures) (fourteen .codes .ensures)
+    (then-of (c .before .before .before .before .before .then2 .ensures) (twelve .refuse-if4 .ensures ∙ ap (refuseIf 8 0) (twelve .before .some-code-above .ensures))
+    (then-of (c .before .before .before .before .before .before .then .ensures)
+    (seven .before .before .before .refuse-if5 .ensures ∙ ap (λ (lines : ℕ). refuseIf 9 0 (ltb lines 12)) (seven .before .before .before .before .line-of .ensures))
+    (seven .refuse-if6 .ensures ∙ ap (refuseIf 11 0) (seven .before .some-above .ensures))))))))
     ∙ judged (s .args .vertical) _ _ _ _ (s .args .mask .now) (s .args .sums .now) _ (seven .before .before .most .ensures)
 
 pub judge-spec : {M : Type 1} → statement M
@@ -105,7 +103,7 @@ judge-spec =
     refuse-if-requires-2
     refuse-if-requires-3
     codes-requires
-    some-unsurveyed-requires
+    some-code-above-requires
     refuse-if-requires-4
     line-of-requires
     refuse-if-requires-5

@@ -17,12 +17,12 @@ walkable-requires c κs = search needs
 returns : tie.Need-returns
 returns c = none-walked 5 _ _ (sym (c .before .walkable .ensures) ∙ c .if1 .taken)
 
-some-bad-code-requires : tie.Need-some-bad-code-requires
-some-bad-code-requires c κs = search needs
+some-code-above-requires : tie.Need-some-code-above-requires
+some-code-above-requires c κs = search needs
 
 returns-2 : tie.Need-returns-2
 returns-2 c = let m = masked (c .before .before) in
-    none-found 5 _ _ _ (m .sites ∙ sym (m .holds)) (sym (c .before .some-bad-code .ensures) ∙ not-true _ (c .if2 .taken))
+    none-found 5 _ _ _ (m .sites ∙ sym (m .holds)) (sym (c .before .some-code-above .ensures) ∙ not-true _ (c .if2 .taken))
 
 first-bad-code-requires : tie.Need-first-bad-code-requires
 first-bad-code-requires c κs = masked (c .before .before) .holds
@@ -39,4 +39,4 @@ returns-3 c =
 pub codes-spec : {M : Type 1} → statement M
 codes-spec =
     tie.close
-    (tie.spec walkable-requires returns some-bad-code-requires returns-2 first-bad-code-requires refuse-if-requires returns-3)
+    (tie.spec walkable-requires returns some-code-above-requires returns-2 first-bad-code-requires refuse-if-requires returns-3)
