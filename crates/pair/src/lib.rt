@@ -75,23 +75,12 @@ fn wide(value: u16) -> u32
     value as u32
 }
 
-// |d| of two samples.
-fn samples_apart(first: u16, second: u16) -> u16
-    ensures { λ r. ⌜ r ≡ apart second first ⌝ }
-{
-    if first < second {
-        second - first
-    } else {
-        first - second
-    }
-}
-
 // d² of two samples.
 fn squared(first: u16, second: u16) -> u64
     ensures { λ r. ⌜ (r ≡ apart second first * apart second first) × (r ≤ 4294836225) ⌝ }
 {
-    let d = wide(samples_apart(first, second));
-    (d * d) as u64
+    let d = exact::apart(second as u64, first as u64);
+    d * d
 }
 
 // The one walk. An unsurveyed site adds 0 to every sum.
