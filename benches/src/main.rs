@@ -1,4 +1,4 @@
-//! Times each call of the library at 128 x 128 beside the same work in plain Rust.
+//! Times each call of the library at 128 x 128 (the job at 64 x 64) beside the same work in plain Rust.
 //!
 //! `bench` prints the least nanoseconds of many rounds, and the library's over plain Rust's. `bench --smoke` times
 //! nothing: it runs each form once on each input and sees that all give the same answer and the same buffers.

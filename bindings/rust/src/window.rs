@@ -13,7 +13,7 @@ pub struct Window {
 
 /// Mask code of a site whose sample counts.
 pub const SURVEYED: u8 = 0;
-/// Mask code of a site with nothing to measure; its sample may be any number.
+/// Mask code of a site where nothing was seen; its sample may be any number.
 pub const GAP: u8 = 1;
 /// Mask code of a defective site: what [`find_defects`](crate::find_defects) writes and [`repair`](crate::repair) fills.
 pub const DEFECT: u8 = 2;

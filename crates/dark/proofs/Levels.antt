@@ -1,4 +1,4 @@
--- The verdict and what it makes of the answer, and one turn of the sum.
+-- The verdict, and what it makes of the answer.
 use Prim.Native.Nat.{ℕ, min, _≤_, _<_}
 use mathlib.Core.List.{List, [], _∷_}
 use mathlib.Core.Path.{_≡_, refl}

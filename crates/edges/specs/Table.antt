@@ -36,9 +36,9 @@ but n value place other = tabulate n (λ (i : ℕ). cond (eqb i place) other val
 abbrev ramp : List ℕ
 ramp = 100 ∷ 101 ∷ 102 ∷ 103 ∷ []
 
--- 12 wide, 2 high, all 100 but columns 5 or 6 as given
+-- 12 wide, 2 high, all 100 but columns 5 and 6 as given
 abbrev striped : ℕ → ℕ → List ℕ
-striped fifth sixth = tabulate 24 (λ (i : ℕ). cond (eqb (i % 12) 5) fifth (cond (eqb (i % 12) 6) sixth 100))
+striped five six = tabulate 24 (λ (i : ℕ). cond (eqb (i % 12) 5) five (cond (eqb (i % 12) 6) six 100))
 
 -- 22 wide, 18 high, all 100 but row 4 of plane (0,0), the window's row 8 at even columns: 103 before the site `last`, 102 from there on
 abbrev raised : ℕ → List ℕ

@@ -32,15 +32,6 @@ module _ (test : ℕ → Bool) where
       (λ k. rw (first-here n i k e t, lt-ltb i n k))
       (eq-or-lt-of-le (le-of-suc-le-suc l))
 
-  pub first-le : (n : ℕ) → firstTo n test ≤ n
-  unfolding firstTo
-  first-le zero = omega arith
-  first-le (suc n) =
-      ⊎-elim
-      (λ l. rw (lt-ltb (firstTo n test) n l) (omega arith))
-      (λ g. rw (le-ltb (firstTo n test) n g) (⊎-elim (λ t. rw t (omega arith)) (λ t. rw t (omega arith)) (true-or-false (test n))))
-      (lt-or-ge (firstTo n test) n)
-
   -- the test holds nowhere before what is found
   pub first-before : (n i : ℕ) → i < firstTo n test → test i ≡ false
   unfolding firstTo

@@ -41,7 +41,7 @@ enum Measurement {
     Refused(Refusal),
 }
 
-// Refusals 1 to 6.
+// Refusals 1, 2, 4, 5 and 6.
 fn judge(
     width: usize,
     height: usize,

@@ -1,6 +1,5 @@
 // Pattern noise of a stack, vertical and horizontal by one walk over lines: document 01, "Pattern noise".
 ghost use mathlib.Core.Path.{_≡_};
-ghost use mathlib.Core.Bool.{true, false};
 ghost use Prim.Native.Nat.{ℕ, _+_, _*_, _<_, _≤_};
 ghost use lib.ListN.{length};
 ghost use Rattle.laws.specs.First.{someTo};

@@ -266,7 +266,7 @@ fn fill(
     filled
 }
 
-// Refusals 1 to 6 of a repair, of the lengths of the buffers that are written.
+// Refusals 1, 2, 4, 5 and 6 of a repair, of the lengths of the buffers that are written.
 fn judge_repair(
     width: usize,
     height: usize,

@@ -12,14 +12,12 @@ use Rattle.laws.proofs.Cases.{neither, and-true, times-le}
 use Rattle.laws.proofs.Firsts.{first-nowhere}
 use Rattle.laws.proofs.Squares.{schwarz-more}
 use Rattle.window.specs.Shape.{sitesOf}
-use Rattle.window.proofs.Sides.{sites-few}
 use Rattle.stack.specs.Sums.{impossible, impossibleAt, impossibleIn}
 use Rattle.stack.specs.Walk.{readable}
 
 pub record Readable (full k mask sums squares : ℕ) : Type 0 where
   pub scale : full ≤ 4095
   pub count : k ≤ 100
-  pub few : mask ≤ 16384
   pub long : sums ≡ mask
   pub square-long : squares ≡ mask
 
@@ -27,14 +25,12 @@ module _ (full k mask sums squares : ℕ) where
   pub readable-is : readable full k mask sums squares ≡ true → Readable full k mask sums squares
   unfolding readable
   readable-is e =
-      let a = and-true (leb full 4095) (leb k 100 && (leb mask 16384 && (eqb sums mask && eqb squares mask))) e in
-      let b = and-true (leb k 100) (leb mask 16384 && (eqb sums mask && eqb squares mask)) (a .1) in
-      let d = and-true (leb mask 16384) (eqb sums mask && eqb squares mask) (b .1) in
-      let l = and-true (eqb sums mask) (eqb squares mask) (d .1) in
+      let a = and-true (leb full 4095) (leb k 100 && (eqb sums mask && eqb squares mask)) e in
+      let b = and-true (leb k 100) (eqb sums mask && eqb squares mask) (a .1) in
+      let l = and-true (eqb sums mask) (eqb squares mask) (b .1) in
       record {
         scale = leb-true full 4095 (a .0);
         count = leb-true k 100 (b .0);
-        few = leb-true mask 16384 (d .0);
         long = eqb-true sums mask (l .0);
         square-long = eqb-true squares mask (l .1);
       }
@@ -42,7 +38,7 @@ module _ (full k mask sums squares : ℕ) where
   pub is-readable : Readable full k mask sums squares → readable full k mask sums squares ≡ true
   unfolding readable
   is-readable r =
-      rw (le-leb full 4095 (r .scale), le-leb k 100 (r .count), le-leb mask 16384 (r .few), eq-eqb sums mask (r .long), eq-eqb squares mask (r .square-long))
+      rw (le-leb full 4095 (r .scale), le-leb k 100 (r .count), eq-eqb sums mask (r .long), eq-eqb squares mask (r .square-long))
 
 -- sums that 11 does not refuse
 pub record Possible (full k s q : ℕ) : Type 0 where
@@ -79,9 +75,9 @@ pub readable-whole : (w h full k : ℕ) (mask sums squares : List ℕ) → full 
     → readable full k (length mask) (length sums) (length squares) ≡ true
 readable-whole w h full k mask sums squares f c m s q =
     is-readable full k (length mask) (length sums) (length squares)
-    (record { scale = f; count = c; few = omega (arith, sites-few w h); long = omega arith; square-long = omega arith })
+    (record { scale = f; count = c; long = omega arith; square-long = omega arith })
 
--- where 11 does not apply, every site's sums are possible, and where they are it does not
+-- where 11 does not apply, every site's sums are possible
 pub all-possible : (n full k : ℕ) (s q : ℕ → ℕ) → impossibleIn n full k s q ≡ false → (i : ℕ) → i < n → Possible full k (s i) (q i)
 unfolding impossibleIn
 all-possible n full k s q e i l = possible-is full k (s i) (q i) (first-nowhere (impossibleAt full k s q) n e i l)

@@ -64,14 +64,14 @@ module _ (n k : ℕ) (s q : ℕ → ℕ) (h : (i : ℕ) → i < n → s i * s i 
   spread-is : k * sumTo n q - sumTo n (squared s) ≡ spread n k s q
   unfolding spread
   spread-is =
-      let apart : sumTo n (λ (i : ℕ). k * q i - s i * s i + s i * s i) ≡ sumTo n (λ (i : ℕ). k * q i) = sum-ext n _ _ (λ i l. omega (arith, h i l)) in
-      omega (arith, apart, sum-add n (λ (i : ℕ). k * q i - s i * s i) (squared s), sum-times n k q)
+      let rejoined : sumTo n (λ (i : ℕ). k * q i - s i * s i + s i * s i) ≡ sumTo n (λ (i : ℕ). k * q i) = sum-ext n _ _ (λ i l. omega (arith, h i l)) in
+      omega (arith, rejoined, sum-add n (λ (i : ℕ). k * q i - s i * s i) (squared s), sum-times n k q)
 
   -- of both sums at the end of the walk
   pub spread-of : (i a b : ℕ) → i ≡ n → a ≡ sumTo i (squared s) → b ≡ sumTo i q → (a ≤ k * b) × (k * b - a ≡ spread n k s q)
   spread-of i a b e p r = rw (p, r, e) (less-than-whole, spread-is)
 
--- s² at a site is no more than 100 frames' squares can be
+-- s² at a site is at most 100 times the largest sum of squares that 32 bits hold
 pub square-small : (k : ℕ) (mask sums squares : List ℕ) (i s q : ℕ) → k ≤ 100 → q ≤ 4294967295
     → seen mask sums i * seen mask sums i ≤ k * seen mask squares i
     → s ≡ seenAt (getD mask i 0) (getD sums i 0) → q ≡ seenAt (getD mask i 0) (getD squares i 0) → s * s ≤ 100 * 4294967295

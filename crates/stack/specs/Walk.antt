@@ -6,4 +6,4 @@ use lib.Dec.{eqb, leb}
 -- sums that can be walked with a mask of this length, and whose products fit
 unfoldable pub readable : ℕ → ℕ → ℕ → ℕ → ℕ → Bool
 readable full k mask sums squares =
-    leb full 4095 && (leb k 100 && (leb mask 16384 && (eqb sums mask && eqb squares mask)))
+    leb full 4095 && (leb k 100 && (eqb sums mask && eqb squares mask))

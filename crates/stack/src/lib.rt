@@ -1,7 +1,7 @@
 // A stack of frames: document 01, "Stack".
 ghost use mathlib.Core.Path.{_≡_};
 ghost use mathlib.Core.Bool.{true, _&&_};
-ghost use Prim.Native.Nat.{ℕ, _+_, _-_, _*_, _^_, _≤_, _<_};
+ghost use Prim.Native.Nat.{ℕ, _+_, _*_, _^_, _≤_, _<_};
 ghost use lib.ListN.{length, getD};
 ghost use Rattle.laws.specs.Sum.{sumTo};
 ghost use Rattle.window.specs.Judge.{walked};
@@ -43,9 +43,6 @@ fn readable(full_scale: u64, frames: u64, mask: usize, sums: usize, squares: usi
     if 100 < frames {
         return false;
     }
-    if 16384 < mask {
-        return false;
-    }
     if sums != mask {
         return false;
     }
@@ -65,15 +62,15 @@ fn impossible(full_scale: u64, frames: u64, sum: u32, square: u32) -> bool
     sum_over | (square_over | crossed)
 }
 
-// Whether some site's sums cannot come from so many frames.
+// Whether some surveyed site's sums cannot come from so many frames.
 fn some_impossible(full_scale: u64, frames: u64, mask: &[u8], sums: &[u32], squares: &[u32]) -> bool
     requires { ⌜ readable «full_scale» frames (length (now mask)) (length (now sums)) (length (now squares)) ≡ true ⌝ }
     ensures { λ r. ⌜ r ≡ impossibleIn (length (now (mask .entry))) «full_scale» frames (seen (now (mask .entry)) (now (sums .entry))) (seen (now (mask .entry)) (now (squares .entry))) ⌝ }
 {
     let mut found = false;
     for i in 0..mask.len() {
-        let odd = impossible(full_scale, frames, sums[i], squares[i]);
-        found = found | ((mask[i] == 0) & odd);
+        let bad = impossible(full_scale, frames, sums[i], squares[i]);
+        found = found | ((mask[i] == 0) & bad);
     }
     found
 }
@@ -112,9 +109,9 @@ fn judge_frame(
     let squares_long = window::refuse_if(4, 0, squares.len() != n);
     let codes = window::codes(width, height, mask);
     let samples = window::samples(width, height, full_scale, mask, frame);
-    let odd = possible(full_scale, frames, mask, sums, squares);
+    let impossible = possible(full_scale, frames, mask, sums, squares);
     let full = window::refuse_if(12, 0, frames == 100);
-    let sites = window::then(codes, window::then(samples, window::then(odd, full)));
+    let sites = window::then(codes, window::then(samples, window::then(impossible, full)));
     let stack_long = window::then(sums_long, window::then(squares_long, sites));
     let lengths = window::then(mask_long, window::then(frame_long, stack_long));
     window::then(shape, window::then(count, lengths))
@@ -220,8 +217,8 @@ fn judge_stack(
     let squares_long = window::refuse_if(4, 0, squares.len() != n);
     let codes = window::codes(width, height, mask);
     let few = window::refuse_if(7, 0, too_few(count, frames));
-    let odd = possible(full_scale, frames, mask, sums, squares);
-    let sites = window::then(codes, window::then(few, odd));
+    let impossible = possible(full_scale, frames, mask, sums, squares);
+    let sites = window::then(codes, window::then(few, impossible));
     let stack_long = window::then(sums_long, window::then(squares_long, sites));
     window::then(
         shape,

@@ -8,7 +8,7 @@ use Rattle.window.specs.Shape.{badSides, sitesOf}
 use Rattle.window.specs.Verdict.{_⨟_, refuseIf}
 use Rattle.window.specs.declared.Verdict.{Verdict}
 use Rattle.raw.specs.Packed.{sample10, length10}
-use Rattle.stream.specs.Fields.{Field, field, wordAt, bodyAt, past, fieldsAt, pastAll, extraAt}
+use Rattle.stream.specs.Fields.{Field, field, wordAt, bodyAt, fieldsAt, pastAll, extraAt}
 
 -- 1 width, 2 height: two bytes each
 abbrev pub sideFields : List Field

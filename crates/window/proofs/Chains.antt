@@ -79,7 +79,7 @@ samples-whole w h full mask frame e f =
     omega (arith, walked-whole w h (length mask) e, walked-whole w h (length frame) f) in
     ap (λ (k : ℕ). samplesOf k full (seen mask frame)) n
 
--- THE STEP every call with a mask and a frame takes: after 4, whatever stands between, 5 and 6 are asked of the whole window
+-- after 4, whatever stands between, 5 and 6 are asked of the whole window
 pub seen-whole : (w h full : ℕ) (mask frame : List ℕ) (between : Verdict → Verdict)
     → refuseIf 4 0 (otherThan (sitesOf w h) (length mask))
     ⨟ refuseIf 4 0 (otherThan (sitesOf w h) (length frame))

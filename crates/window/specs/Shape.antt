@@ -1,4 +1,4 @@
--- Document 01, "What the bench does", "Stack": the sides of a window, its full scale, and a stack's count of frames.
+-- Document 01, "What the bench does", "Refusal numbers": the sides of a window, its full scale, and a stack's count of frames.
 use Prim.Native.Nat.{ℕ, _*_, _%_}
 use mathlib.Core.Bool.{Bool, not, cond, _||_}
 use lib.Dec.{eqb, ltb}

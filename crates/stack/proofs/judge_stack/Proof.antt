@@ -64,8 +64,8 @@ then-requires-7 c κs = search needs
 
 returns : tie.Need-returns
 returns c = let sites = c .before .before .before .before .before in
-    let odd = sites .before .before in
-    let squares-long = odd .before .before .before .before in
+    let last = sites .before .before in
+    let squares-long = last .before .before .before .before in
     let bad = squares-long .before .before .before in
     let asked = bad .before .before .before in
     let begun = asked .before .before .before .before in
@@ -76,8 +76,8 @@ returns c = let sites = c .before .before .before .before .before in
     (then-of (c .before .before .then5 .ensures) (length-told _ _ _ n (squares-long .before .before .refuse-if2 .ensures))
     (then-of (c .before .before .before .then4 .ensures) (length-told _ _ _ n (squares-long .before .refuse-if3 .ensures))
     (then-of (c .before .before .before .before .then3 .ensures) (length-told _ _ _ n (squares-long .refuse-if4 .ensures))
-    (then-of (sites .then2 .ensures) (odd .before .before .before .codes .ensures)
-    (then-of (sites .before .then .ensures) (odd .before .refuse-if5 .ensures ∙ ap (refuseIf 7 0) (odd .before .before .too-few .ensures)) (odd .possible .ensures)))))))
+    (then-of (sites .then2 .ensures) (last .before .before .before .codes .ensures)
+    (then-of (sites .before .then .ensures) (last .before .refuse-if5 .ensures ∙ ap (refuseIf 7 0) (last .before .before .too-few .ensures)) (last .possible .ensures)))))))
     ∙ judged (args .width) (args .height) (args .full-scale) (args .frames) (args .mask .now) (args .sums .now) (args .squares .now) (args .count) (begun .pre)
 
 pub judge-stack-spec : {M : Type 1} → statement M

@@ -29,13 +29,13 @@ loop-holds : tie.Need-loop-holds Inv-loop μ-loop
 loop-holds c = (omega arith, refl, asked-none _ _ _ _)
 
 mul-impossible : tie.Need-mul-impossible Inv-loop μ-loop
-mul-impossible c = omega (arith, legal c)
+mul-impossible c = omega (arith, legal c .long)
 
 shared-slice-read-impossible : tie.Need-shared-slice-read-impossible Inv-loop μ-loop
 shared-slice-read-impossible c = omega (arith, legal (c .before) .long)
 
 mul-impossible-2 : tie.Need-mul-impossible-2 Inv-loop μ-loop
-mul-impossible-2 c = omega (arith, legal (c .before))
+mul-impossible-2 c = omega (arith, legal (c .before) .square-long)
 
 shared-slice-read-impossible-2 : tie.Need-shared-slice-read-impossible-2 Inv-loop μ-loop
 shared-slice-read-impossible-2 c = omega (arith, legal (c .before .before) .square-long)

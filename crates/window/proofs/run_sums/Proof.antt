@@ -1,4 +1,4 @@
--- `run_sums` is last because each turn adds what is seen at one more site of the run.
+-- `run_sums` is right because each turn adds what is seen at one more site of the run.
 use Prim.Native.Nat.{ℕ, _+_, _-_, _*_, _≤_, _<_}
 use mathlib.Core.Path.{_≡_, sym, ap₂, _∙_}
 use native.Mathlib.Omega.{arith}
