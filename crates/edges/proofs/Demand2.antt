@@ -21,8 +21,8 @@ use Rattle.stack.proofs.Promises as stack
 use Rattle.pattern.specs.Lines as pattern-lines
 use Rattle.pattern.specs.Pattern.{patternAnswer}
 use Rattle.pattern.proofs.Promises as pattern
-use Rattle.sites.specs.Find.{findVerdict, findAnswer, findPaper, findMask}
-use Rattle.sites.specs.Repair.{repairVerdict, repairAnswer, repairPaper, repairFrame, repairMask}
+use Rattle.sites.specs.Find.{findVerdict, findAnswer, findMask}
+use Rattle.sites.specs.Repair.{repairVerdict, repairAnswer, repairFrame, repairMask}
 use Rattle.sites.proofs.FindPromises as finding
 use Rattle.sites.proofs.RepairPromises as repairing
 use Rattle.lines.specs.Lines as plane-lines
@@ -59,13 +59,11 @@ pub record Blind : Type 0 where
       → patternAnswer lines w h full k mask sums ≡ patternAnswer lines w h full k mask others
   pub find-defects : (w h full t : ℕ) (mask frame out other : List ℕ) → Agree mask frame other
       → (findAnswer w h full t mask frame (length out) ≡ findAnswer w h full t mask other (length out))
-      × ((findPaper w h full t mask frame (length out) ≡ findPaper w h full t mask other (length out))
-      × (findMask w h full t mask frame out ≡ findMask w h full t mask other out))
+      × (findMask w h full t mask frame out ≡ findMask w h full t mask other out)
   -- the answer and the mask, and the sample of every site that is surveyed or filled; any other sample is copied
   pub repair : (w h full : ℕ) (mask frame outFrame outMask other : List ℕ) → Agree mask frame other
       → (repairAnswer w h full mask frame (length outFrame) (length outMask) ≡ repairAnswer w h full mask other (length outFrame) (length outMask))
-      × ((repairPaper w h full mask frame (length outFrame) (length outMask) ≡ repairPaper w h full mask other (length outFrame) (length outMask))
-      × (repairMask w h full mask frame (length outFrame) outMask ≡ repairMask w h full mask other (length outFrame) outMask))
+      × (repairMask w h full mask frame (length outFrame) outMask ≡ repairMask w h full mask other (length outFrame) outMask)
   pub repaired-samples : (w h full : ℕ) (mask frame other outFrame outMask : List ℕ) → Agree mask frame other
       → repairVerdict w h full mask frame (length outFrame) (length outMask) ≡ verdict.Clear → (i : ℕ) → i < sitesOf w h
       → (getD mask i 0 ≡ 0) ⊎ ((getD mask i 0 ≡ 2) × (getD (repairMask w h full mask frame (length outFrame) outMask) i 0 ≡ 3))

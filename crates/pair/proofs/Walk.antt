@@ -40,19 +40,19 @@ module _ (mask first second : List ℕ) where
   added i t v f e h = ap₂ (λ (x y : ℕ). x + y) e h ∙ sum-more i f
 
   -- a site where u and v are seen: k, x, y and d² are what it adds
-  pub walk-more : {i n a b q : ℕ} (k u v x y d² : ℕ) → Walked mask first second i n a b q
+  pub walk-more : {i n a b q : ℕ} (k u v d² : ℕ) → Walked mask first second i n a b q
       → getD first i 0 < 65536 → getD second i 0 < 65536
       → k ≡ seenAt (getD mask i 0) 1 → u ≡ seenAt (getD mask i 0) (getD first i 0) → v ≡ seenAt (getD mask i 0) (getD second i 0)
-      → x ≡ u → y ≡ v → (d² ≡ apart v u * apart v u) × (d² ≤ 4294836225)
-      → Walked mask first second (i + 1) (n + k) (a + x) (b + y) (q + d²)
-  walk-more {i} {n} {a} {b} {q} k u v x y d² r low high ek eu ev ex ey ed =
+      → (d² ≡ apart v u * apart v u) × (d² ≤ 4294836225)
+      → Walked mask first second (i + 1) (n + k) (a + u) (b + v) (q + d²)
+  walk-more {i} {n} {a} {b} {q} k u v d² r low high ek eu ev ed =
       let code = getD mask i 0 in
       let su : u ≡ seen mask first i = eu ∙ sym (seen-is mask first i) in
       let sv : v ≡ seen mask second i = ev ∙ sym (seen-is mask second i) in
       record {
         counted = added i n k (one mask) (r .counted) (ek ∙ sym (one-is mask i));
-        firsts = added i a x (seen mask first) (r .firsts) (ex ∙ su);
-        seconds = added i b y (seen mask second) (r .seconds) (ey ∙ sv);
+        firsts = added i a u (seen mask first) (r .firsts) su;
+        seconds = added i b v (seen mask second) (r .seconds) sv;
         squared = added i q d² (squares (seen mask first) (seen mask second)) (r .squared) (ed .0 ∙ rw (su, sv));
         few = omega (arith, r .few, seen-le code 1 1 (omega arith));
         low-first = omega (arith, r .low-first, seen-le code (getD first i 0) 65535 (omega arith));

@@ -69,12 +69,6 @@ fn judge(
     window::then(shape, lent)
 }
 
-fn wide(value: u16) -> u32
-    ensures { λ r. ⌜ r ≡ value ⌝ }
-{
-    value as u32
-}
-
 // d² of two samples.
 fn squared(first: u16, second: u16) -> u64
     ensures { λ r. ⌜ (r ≡ apart second first * apart second first) × (r ≤ 4294836225) ⌝ }
@@ -97,9 +91,9 @@ fn sums(mask: &[u8], first: &[u16], second: &[u16]) -> Totals
         let code = mask[i];
         let x = window::seen_at(code, first[i]);
         let y = window::seen_at(code, second[i]);
-        n += wide(window::seen_at(code, 1));
-        of_first += wide(x);
-        of_second += wide(y);
+        n += window::seen_at(code, 1) as u32;
+        of_first += x as u32;
+        of_second += y as u32;
         squares += squared(x, y);
     }
     Totals {

@@ -33,10 +33,9 @@ module _ (w h full t : ℕ) (mask frame out : List ℕ) where
   -- blind: what the frame holds at sites that are not surveyed changes neither the answer nor the mask
   pub blind : (other : List ℕ) → Agree mask frame other
       → (findAnswer w h full t mask frame (length out) ≡ findAnswer w h full t mask other (length out))
-      × ((findPaper w h full t mask frame (length out) ≡ findPaper w h full t mask other (length out))
-      × (findMask w h full t mask frame out ≡ findMask w h full t mask other out))
-  unfolding findAnswer findPaper findMask findVerdict
-  blind other a = rw (a .long, same-view a) (refl, (refl, refl))
+      × (findMask w h full t mask frame out ≡ findMask w h full t mask other out)
+  unfolding findAnswer findMask findVerdict
+  blind other a = rw (a .long, same-view a) (refl, refl)
 
   -- the paper's numbers are those of the answer
   pub paper-is : foundPaperOf (findAnswer w h full t mask frame (length out)) ≡ findPaper w h full t mask frame (length out)

@@ -40,10 +40,9 @@ module _ (w h full : ℕ) (mask frame outFrame outMask : List ℕ) where
   -- blind: what the frame holds at sites that are not surveyed changes neither the answer nor the mask
   pub blind : (other : List ℕ) → Agree mask frame other
       → (repairAnswer w h full mask frame (length outFrame) (length outMask) ≡ repairAnswer w h full mask other (length outFrame) (length outMask))
-      × ((repairPaper w h full mask frame (length outFrame) (length outMask) ≡ repairPaper w h full mask other (length outFrame) (length outMask))
-      × (repairMask w h full mask frame (length outFrame) outMask ≡ repairMask w h full mask other (length outFrame) outMask))
-  unfolding repairAnswer repairPaper repairMask repairVerdict
-  blind other a = rw (a .long, same-view a) (refl, (refl, refl))
+      × (repairMask w h full mask frame (length outFrame) outMask ≡ repairMask w h full mask other (length outFrame) outMask)
+  unfolding repairAnswer repairMask repairVerdict
+  blind other a = rw (a .long, same-view a) (refl, refl)
 
   -- the paper's numbers are those of the answer
   pub paper-is : filledPaperOf (repairAnswer w h full mask frame (length outFrame) (length outMask)) ≡ repairPaper w h full mask frame (length outFrame) (length outMask)

@@ -117,12 +117,6 @@ fn judge_frame(
     window::then(shape, window::then(count, lengths))
 }
 
-fn wide(sample: u16) -> u32
-    ensures { λ r. ⌜ r ≡ sample ⌝ }
-{
-    sample as u32
-}
-
 // Adds what is seen of a frame, where each sum has room.
 fn add_seen(mask: &[u8], frame: &[u16], sums: &mut [u32], squares: &mut [u32])
     requires { ⌜ (length (now frame) ≡ length (now mask)) × (length (now sums) ≡ length (now mask)) × (length (now squares) ≡ length (now mask))
@@ -132,7 +126,7 @@ fn add_seen(mask: &[u8], frame: &[u16], sums: &mut [u32], squares: &mut [u32])
     ensures squares { λ r. ⌜ now (squares .exit) ≡ added (squared (seen (now (mask .entry)) (now (frame .entry)))) (now (squares .entry)) ⌝ }
 {
     for i in 0..mask.len() {
-        let sample = wide(window::seen_at(mask[i], frame[i]));
+        let sample = window::seen_at(mask[i], frame[i]) as u32;
         sums[i] = sums[i] + sample;
         squares[i] = squares[i] + sample * sample;
     }

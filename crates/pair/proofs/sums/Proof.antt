@@ -1,6 +1,6 @@
 -- `sums` is right because each turn adds to every sum what is seen at one more site.
 use Prim.Native.Nat.{_-_, _≤_}
-use mathlib.Core.Path.{_≡_, _∙_}
+use mathlib.Core.Path.{_≡_}
 use native.Mathlib.Omega.{arith}
 use lib.ListN.{length}
 use borrow.Author.Needs.{needs}
@@ -17,8 +17,8 @@ abbrev μ-loop : tie.MeasureT-loop
 μ-loop mask first second n₀ of-first₀ of-second₀ squares₀ i₀ i-end n of-first of-second squares i = i-end - i
 
 -- a site counts 0 or 1
-added : (c : tie.After-wide Inv-loop μ-loop) → c .wide .result ≤ 1
-added c = rw (c .wide .ensures, c .before .seen-at3 .ensures) (seen-le _ 1 1 (omega arith))
+added : (c : tie.After-seen-at3 Inv-loop μ-loop) → c .seen-at3 .result ≤ 1
+added c = rw (c .seen-at3 .ensures) (seen-le _ 1 1 (omega arith))
 
 loop-holds : tie.Need-loop-holds Inv-loop μ-loop
 loop-holds c = (search needs, search needs, walk-begins _ _ _)
@@ -47,20 +47,20 @@ seen-at-requires-2 c κs = search needs
 seen-at-requires-3 : tie.Need-seen-at-requires-3 Inv-loop μ-loop
 seen-at-requires-3 c κs = search needs
 
-wide-requires : tie.Need-wide-requires Inv-loop μ-loop
-wide-requires c κs = search needs
+cast-n : tie.Need-cast-n Inv-loop μ-loop
+cast-n c = search needs
 
 add-n : tie.Need-add-n Inv-loop μ-loop
 add-n c = omega (arith, added c)
 
-wide-requires-2 : tie.Need-wide-requires-2 Inv-loop μ-loop
-wide-requires-2 c κs = search needs
+cast-of-first : tie.Need-cast-of-first Inv-loop μ-loop
+cast-of-first c = search needs
 
 add-of-first : tie.Need-add-of-first Inv-loop μ-loop
 add-of-first c = omega arith
 
-wide-requires-3 : tie.Need-wide-requires-3 Inv-loop μ-loop
-wide-requires-3 c κs = search needs
+cast-of-second : tie.Need-cast-of-second Inv-loop μ-loop
+cast-of-second c = search needs
 
 add-of-second : tie.Need-add-of-second Inv-loop μ-loop
 add-of-second c = omega arith
@@ -78,19 +78,17 @@ loop-less : tie.Need-loop-less Inv-loop μ-loop
 loop-less c = omega arith
 
 loop-again : tie.Need-loop-again Inv-loop μ-loop
-loop-again c = let site = c .before .before .before .before .before .before in
+loop-again c = let site = c .before .before .before in
     let loop = site .before .before .before .before .before .loop in
     let i = loop .i in (
       omega arith,
       loop .inv .1,
-      walk-more _ _ _ _ _ _ _ _ _ (loop .inv .2)
+      walk-more _ _ _ _ _ _ _ (loop .inv .2)
           (site .before .before .shared-slice-known5 .given i .fits)
           (site .shared-slice-known6 .given i .fits)
-          (c .before .before .before .wide .ensures ∙ c .before .before .before .before .seen-at3 .ensures)
+          (c .before .seen-at3 .ensures)
           (site .before .seen-at .ensures)
-          (c .before .before .before .before .before .seen-at2 .ensures)
-          (c .before .before .wide2 .ensures)
-          (c .before .wide3 .ensures)
+          (c .before .before .seen-at2 .ensures)
           (c .squared .ensures),
     )
 
@@ -121,11 +119,11 @@ sums-spec =
     shared-slice-read-seen-at-2
     seen-at-requires-2
     seen-at-requires-3
-    wide-requires
+    cast-n
     add-n
-    wide-requires-2
+    cast-of-first
     add-of-first
-    wide-requires-3
+    cast-of-second
     add-of-second
     squared-requires
     add-squares

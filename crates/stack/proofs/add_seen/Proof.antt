@@ -21,19 +21,19 @@ Inv-loop mask frame sums₀ squares₀ i₀ i-end sums squares i = (i ≤ length
 abbrev μ-loop : tie.MeasureT-loop
 μ-loop mask frame sums₀ squares₀ i₀ i-end sums squares i = length mask - i
 
-abbrev Turn : tie.After-wide Inv-loop μ-loop → tie.At-loop Inv-loop μ-loop
-Turn c = c .before .before .before .before .before
+abbrev Turn : tie.After-seen-at Inv-loop μ-loop → tie.At-loop Inv-loop μ-loop
+Turn c = c .before .before .before .before
 
 abbrev Begun : tie.At-loop Inv-loop μ-loop → tie.Start Inv-loop μ-loop
 Begun c = c .before .before .before .before .before
 
 -- what is added is what is seen at the site
-seen-here : (c : tie.After-wide Inv-loop μ-loop)
-    → c .wide .result ≡ seen (Begun (Turn c) .args .mask .now) (Begun (Turn c) .args .frame .now) (Turn c .loop .i)
-seen-here c = c .wide .ensures ∙ c .before .seen-at .ensures ∙ sym (seen-is _ _ _)
+seen-here : (c : tie.After-seen-at Inv-loop μ-loop)
+    → c .seen-at .result ≡ seen (Begun (Turn c) .args .mask .now) (Begun (Turn c) .args .frame .now) (Turn c .loop .i)
+seen-here c = c .seen-at .ensures ∙ sym (seen-is _ _ _)
 
-squared-here : (c : tie.After-wide Inv-loop μ-loop)
-    → c .wide .result * c .wide .result ≡ squared (seen (Begun (Turn c) .args .mask .now) (Begun (Turn c) .args .frame .now)) (Turn c .loop .i)
+squared-here : (c : tie.After-seen-at Inv-loop μ-loop)
+    → c .seen-at .result * c .seen-at .result ≡ squared (seen (Begun (Turn c) .args .mask .now) (Begun (Turn c) .args .frame .now)) (Turn c .loop .i)
 squared-here c = ap₂ (λ (x y : ℕ). x * y) (seen-here c) (seen-here c)
 
 loop-holds : tie.Need-loop-holds Inv-loop μ-loop
@@ -51,8 +51,8 @@ shared-slice-read-seen-at-2 c = omega arith
 seen-at-requires : tie.Need-seen-at-requires Inv-loop μ-loop
 seen-at-requires c κs = search needs
 
-wide-requires : tie.Need-wide-requires Inv-loop μ-loop
-wide-requires c κs = search needs
+cast-sample : tie.Need-cast-sample Inv-loop μ-loop
+cast-sample c = search needs
 
 mul-sums : tie.Need-mul-sums Inv-loop μ-loop
 mul-sums c = omega arith
@@ -77,8 +77,8 @@ slice-read-squares : tie.Need-slice-read-squares Inv-loop μ-loop
 slice-read-squares c = omega arith
 
 mul-squares-2 : tie.Need-mul-squares-2 Inv-loop μ-loop
-mul-squares-2 c = let r = c .before .before .wide .result in
-    omega (arith, times-le r r 65535 65535 (omega (arith, c .before .before .wide .ensures)) (omega (arith, c .before .before .wide .ensures)))
+mul-squares-2 c = let r = c .before .before .seen-at .result in
+    omega (arith, times-le r r 65535 65535 (omega arith) (omega arith))
 
 add-squares : tie.Need-add-squares Inv-loop μ-loop
 add-squares c = let t = Turn (c .before .before) in
@@ -121,7 +121,7 @@ add-seen-spec =
     mul-seen-at
     shared-slice-read-seen-at-2
     seen-at-requires
-    wide-requires
+    cast-sample
     mul-sums
     slice-read-sums
     add-sums
