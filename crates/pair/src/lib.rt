@@ -69,12 +69,23 @@ fn judge(
     window::then(shape, lent)
 }
 
+// |d| of two samples, at 16 bits: with exact::apart, at 64, the call takes twice the time.
+fn samples_apart(first: u16, second: u16) -> u16
+    ensures { λ r. ⌜ r ≡ apart second first ⌝ }
+{
+    if first < second {
+        second - first
+    } else {
+        first - second
+    }
+}
+
 // d² of two samples.
 fn squared(first: u16, second: u16) -> u64
     ensures { λ r. ⌜ (r ≡ apart second first * apart second first) × (r ≤ 4294836225) ⌝ }
 {
-    let d = exact::apart(second as u64, first as u64);
-    d * d
+    let d = samples_apart(first, second) as u32;
+    (d * d) as u64
 }
 
 // The one walk. An unsurveyed site adds 0 to every sum.
