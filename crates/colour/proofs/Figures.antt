@@ -6,9 +6,9 @@ use native.Mathlib.Omega.{arith}
 use lib.IntN.{pos, natAbs, _*ℤ_}
 use Rattle.laws.proofs.Cases.{times-le}
 use Rattle.laws.proofs.Signeds.{⊖-eq, ⊖-ge, ⊖-scale, ⊖-within}
-use Rattle.window.specs.declared.Sums.{Sums}
-use Rattle.window.specs.declared.Verdict.{Verdict}
-use Rattle.window.specs.declared.Verdict.the-variants as verdict
+use Rattle.plane.specs.declared.Sums.{Sums}
+use Rattle.verdict.specs.declared.Verdict.{Verdict}
+use Rattle.verdict.specs.declared.Verdict.the-variants as verdict
 use Rattle.colour.specs.Colour.{aboveBlack, ratioOf, answered}
 use Rattle.colour.specs.declared.Centres.{Centres}
 use Rattle.colour.specs.declared.Ratio.{Ratio}

@@ -11,15 +11,15 @@ use borrow.Author.Tests.{ltb-false, eqb-false}
 use Rattle.laws.proofs.Cases.{neither, times-le}
 use Rattle.window.specs.Shape.{badSides, badScale, sitesOf}
 use Rattle.window.specs.View.{badCode, above, seen, one}
-use Rattle.window.specs.Verdict.{_⨟_, refuseIf, refuseFirst}
+use Rattle.verdict.specs.Verdict.{_⨟_, refuseIf, refuseFirst}
 use Rattle.window.specs.Judge.{shapeOf, otherThan, codesOf, samplesOf, walked}
-use Rattle.window.specs.Plane.{boxSums}
-use Rattle.window.specs.declared.Refusal.{Refusal}
-use Rattle.window.specs.declared.Sums.{Sums}
-use Rattle.window.specs.declared.Verdict.{Verdict}
-use Rattle.window.specs.declared.Verdict.the-variants as verdict
+use Rattle.plane.specs.Plane.{boxSums}
+use Rattle.verdict.specs.declared.Refusal.{Refusal}
+use Rattle.plane.specs.declared.Sums.{Sums}
+use Rattle.verdict.specs.declared.Verdict.{Verdict}
+use Rattle.verdict.specs.declared.Verdict.the-variants as verdict
 use Rattle.window.proofs.Sides.{Sides}
-use Rattle.window.proofs.Verdicts.{Test, Tabled, test, testFirst, tabled, then-same, then-clear, then-assoc, unless}
+use Rattle.verdict.proofs.Verdicts.{Test, Tabled, test, testFirst, tabled, then-same, then-clear, then-assoc, unless}
 use Rattle.window.proofs.Chains.{shape-clear, same-length, samples-clear, measured, codes-whole, samples-whole}
 use Rattle.colour.specs.Bayer.{mosaicOf, centresOf}
 use Rattle.colour.specs.Centre.{centreOf, tooSmall, centreSums, someEmpty}

@@ -6,14 +6,14 @@ use mathlib.Core.Path.{_≡_, refl, sym, ap, ap₂, _∙_, subst, fun-ext}
 use lib.ListN.{length}
 use Rattle.window.specs.Shape.{sitesOf}
 use Rattle.window.specs.View.{seen, one}
-use Rattle.window.specs.Verdict.{_⨟_, refuseIf, refuseFirst, numberOf}
+use Rattle.verdict.specs.Verdict.{_⨟_, refuseIf, refuseFirst, numberOf}
 use Rattle.window.specs.Judge.{otherThan}
-use Rattle.window.specs.Plane.{planeRow, planeColumn, sums}
-use Rattle.window.specs.declared.Sums.{Sums}
-use Rattle.window.specs.declared.Verdict.{Verdict}
-use Rattle.window.specs.declared.Verdict.the-variants as verdict
-use Rattle.window.proofs.Verdicts.{not-given}
-use Rattle.window.proofs.Planes.{box-seen}
+use Rattle.plane.specs.Plane.{planeRow, planeColumn, sums}
+use Rattle.plane.specs.declared.Sums.{Sums}
+use Rattle.verdict.specs.declared.Verdict.{Verdict}
+use Rattle.verdict.specs.declared.Verdict.the-variants as verdict
+use Rattle.verdict.proofs.Verdicts.{not-given}
+use Rattle.plane.proofs.Planes.{box-seen}
 use Rattle.colour.specs.Bayer.{centresOf}
 use Rattle.colour.specs.Centre.{centreOf}
 use Rattle.colour.specs.Colour.{centresSeen, centresVerdict, colourVerdict, answered, colourAnswer}

@@ -10,13 +10,13 @@ use borrow.Author.Tests.{le-ltb}
 use Rattle.laws.proofs.Firsts.{first-ext}
 use Rattle.window.specs.Shape.{sitesOf}
 use Rattle.window.specs.View.{surveyed, above, seen, one}
-use Rattle.window.specs.Verdict.{refuseIf, refuseFirst}
+use Rattle.verdict.specs.Verdict.{refuseIf, refuseFirst}
 use Rattle.window.specs.Judge.{shapeOf, samplesOf}
-use Rattle.window.specs.declared.Verdict.{Verdict}
+use Rattle.verdict.specs.declared.Verdict.{Verdict}
 use Rattle.window.proofs.Sides.{Sides}
-use Rattle.window.proofs.Verdicts.{then-same}
+use Rattle.verdict.proofs.Verdicts.{then-same}
 use Rattle.window.proofs.Views.{seen-most, seen-raised}
-use Rattle.window.proofs.Planes.{box-above}
+use Rattle.plane.proofs.Planes.{box-above}
 use Rattle.window.proofs.Chains.{shape-clear}
 use Rattle.colour.specs.Bayer.{mosaicOf}
 use Rattle.colour.specs.Centre.{centreOf, centreSums, someEmpty}

@@ -8,12 +8,12 @@ use lib.ListN.{length}
 use Rattle.laws.proofs.Cases.{times-le}
 use Rattle.window.specs.Shape.{sitesOf}
 use Rattle.window.specs.View.{seen, one}
-use Rattle.window.specs.Plane.{boxSums}
-use Rattle.window.specs.declared.PlaneBox.{PlaneBox}
-use Rattle.window.specs.declared.Sums.{Sums}
+use Rattle.plane.specs.Plane.{boxSums}
+use Rattle.plane.specs.declared.PlaneBox.{PlaneBox}
+use Rattle.plane.specs.declared.Sums.{Sums}
 use Rattle.window.proofs.Sides.{Sides}
 use Rattle.window.proofs.Views.{one-le, seen-counted}
-use Rattle.window.proofs.Planes.{box-few, box-at-most, sums-accepted}
+use Rattle.plane.proofs.Planes.{box-few, box-at-most, sums-accepted}
 use Rattle.colour.specs.Bayer.{mosaicOf, centresOf}
 use Rattle.colour.specs.Centre.{centreOf, centreSums}
 use Rattle.colour.specs.Colour.{centresSeen}

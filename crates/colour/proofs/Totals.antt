@@ -14,7 +14,7 @@ use borrow.Author.Tests.{ltb-true, lt-ltb, le-ltb, not-false, le-leb, lt-leb}
 use Rattle.laws.proofs.Cases.{lt-or-ge, times-le}
 use Rattle.laws.proofs.Signeds.{⊖-above, ⊖-scale, ⊖-ge}
 use Rattle.laws.proofs.Machine.{Is, laid-is, scale-is, scale-fits}
-use Rattle.window.specs.declared.Sums.{Sums}
+use Rattle.plane.specs.declared.Sums.{Sums}
 use Rattle.colour.specs.Colour.{aboveBlack, notAbove, ratio, ratioOf}
 
 module _ (black : ℕ) (shown : Sums) where

@@ -2,7 +2,7 @@
 use Prim.Native.Nat.{ℕ}
 use mathlib.Core.Bool.{cond}
 use lib.Dec.{eqb}
-use Rattle.window.specs.declared.Sums.{Sums}
+use Rattle.plane.specs.declared.Sums.{Sums}
 use Rattle.colour.specs.declared.Mosaic.{Mosaic}
 use Rattle.colour.specs.declared.Centres.{Centres}
 

@@ -2,9 +2,9 @@
 use Prim.Native.Nat.{ℕ, _+_, _-_, _/_}
 use mathlib.Core.Bool.{Bool, _||_}
 use lib.Dec.{eqb, ltb}
-use Rattle.window.specs.Plane.{boxSum, sums}
-use Rattle.window.specs.declared.PlaneBox.{PlaneBox}
-use Rattle.window.specs.declared.Sums.{Sums}
+use Rattle.plane.specs.Plane.{boxSum, sums}
+use Rattle.plane.specs.declared.PlaneBox.{PlaneBox}
+use Rattle.plane.specs.declared.Sums.{Sums}
 use Rattle.colour.specs.declared.Centres.{Centres}
 
 -- of a plane w / 2 wide and h / 2 high: 32 wide and 24 high, left and top being half the rest rounded down

@@ -4,16 +4,15 @@ use mathlib.Core.Bool.{Bool, not}
 use mathlib.Core.List.{List}
 use lib.Dec.{ltb}
 use lib.IntN.{ℤ, pos, natAbs, _*ℤ_}
-use lib.ListN.{length}
 use lib.Signed.{ltZ}
 use Rattle.laws.specs.Signed.{_⊖_}
-use Rattle.window.specs.Shape.{sitesOf}
 use Rattle.window.specs.View.{seen, one}
-use Rattle.window.specs.Verdict.{_⨟_, refuseIf, numberOf, placeOf, ifClear}
-use Rattle.window.specs.Judge.{shapeOf, otherThan, codesOf, samplesOf}
-use Rattle.window.specs.declared.Sums.{Sums}
-use Rattle.window.specs.declared.Verdict.{Verdict}
-use Rattle.window.specs.declared.Verdict.the-variants as verdict
+use Rattle.verdict.specs.Verdict.{_⨟_, refuseIf}
+use Rattle.verdict.specs.Answer.{answerOf, Paper, acceptedPaper, refusedPaper, paperFor}
+use Rattle.window.specs.Judge.{frameVerdict}
+use Rattle.plane.specs.declared.Sums.{Sums}
+use Rattle.verdict.specs.declared.Verdict.{Verdict}
+use Rattle.verdict.specs.declared.Verdict.the-variants as verdict
 use Rattle.colour.specs.Bayer.{centresOf}
 use Rattle.colour.specs.Centre.{tooSmall, centreSums, someEmpty}
 use Rattle.colour.specs.declared.Centres.{Centres}
@@ -42,15 +41,9 @@ abbrev pub centresSeen : ℕ → ℕ → ℕ → List ℕ → List ℕ → Centr
 centresSeen w h order mask frame = centresOf order (centreSums w h (seen mask frame) (one mask))
 
 -- the refusals of the window, of the numbers handed in and of what is lent, in their order
-unfoldable pub frameVerdict : ℕ → ℕ → ℕ → ℕ → ℕ → List ℕ → List ℕ → Verdict
-frameVerdict w h full black order mask frame =
-    shapeOf w h full
-    ⨟ refuseIf 3 0 (ltb full black)
-    ⨟ refuseIf 3 0 (ltb 3 order)
-    ⨟ refuseIf 4 0 (otherThan (sitesOf w h) (length mask))
-    ⨟ refuseIf 4 0 (otherThan (sitesOf w h) (length frame))
-    ⨟ codesOf (sitesOf w h) mask
-    ⨟ samplesOf (sitesOf w h) full (seen mask frame)
+unfoldable pub lentVerdict : ℕ → ℕ → ℕ → ℕ → ℕ → List ℕ → List ℕ → Verdict
+lentVerdict w h full black order mask frame =
+    frameVerdict w h full (refuseIf 3 0 (ltb full black) ⨟ refuseIf 3 0 (ltb 3 order)) mask frame verdict.Clear
 
 -- then those of the centres, 9 before 7
 abbrev pub centresVerdict : ℕ → ℕ → ℕ → Centres → Verdict
@@ -61,42 +54,39 @@ centresVerdict w h black shown =
 
 unfoldable pub colourVerdict : ℕ → ℕ → ℕ → ℕ → ℕ → List ℕ → List ℕ → Verdict
 colourVerdict w h full black order mask frame =
-    frameVerdict w h full black order mask frame ⨟ centresVerdict w h black (centresSeen w h order mask frame)
+    lentVerdict w h full black order mask frame ⨟ centresVerdict w h black (centresSeen w h order mask frame)
 
-abbrev pub answered : Verdict → ℕ → Centres → Colour
-answered verdict.Clear black shown =
-    OverGr (ratioOf black (shown .r) (shown .gr)) (ratioOf black (shown .b) (shown .gr)) (ratioOf black (shown .gb) (shown .gr))
-answered (verdict.Refused r) black shown = Refused r
-
--- R, B and Gb over Gr, unreduced, or the refusal
-unfoldable pub colourAnswer : ℕ → ℕ → ℕ → ℕ → ℕ → List ℕ → List ℕ → Colour
-colourAnswer w h full black order mask frame =
-    answered (colourVerdict w h full black order mask frame) black (centresSeen w h order mask frame)
-
--- the paper's numbers of an answer
-pub record Paper : Type 0 where
-  pub number : ℕ
-  pub place : ℕ
+-- R, B and Gb over Gr, unreduced
+pub record Figures : Type 0 where
   pub r : Ratio
   pub b : Ratio
   pub gb : Ratio
 
+abbrev pub figures : Ratio → Ratio → Ratio → Figures
+figures r b gb = record { r = r; b = b; gb = gb }
+
 abbrev pub noRatio : Ratio
 noRatio = ratio (pos 0) 0
 
-abbrev pub paperOf : Colour → Paper
-paperOf (OverGr r b gb) = record { number = 0; place = 0; r = r; b = b; gb = gb }
-paperOf (Refused r) = record { number = r .number; place = r .place; r = noRatio; b = noRatio; gb = noRatio }
+abbrev pub noFigures : Figures
+noFigures = figures noRatio noRatio noRatio
+
+abbrev pub colourFigures : ℕ → Centres → Figures
+colourFigures black shown =
+    figures (ratioOf black (shown .r) (shown .gr)) (ratioOf black (shown .b) (shown .gr)) (ratioOf black (shown .gb) (shown .gr))
+
+-- the answer: the figures, or the refusal
+unfoldable pub colourAnswer : ℕ → ℕ → ℕ → ℕ → ℕ → List ℕ → List ℕ → Colour
+colourAnswer w h full black order mask frame =
+    let f = colourFigures black (centresSeen w h order mask frame) in
+    answerOf (colourVerdict w h full black order mask frame) (OverGr (f .r) (f .b) (f .gb)) Refused
+
+-- the paper's numbers of an answer
+abbrev pub paperOf : Colour → Paper Figures
+paperOf (OverGr r b gb) = acceptedPaper (figures r b gb)
+paperOf (Refused r) = refusedPaper r noFigures
 
 -- the paper's numbers for all inputs
-unfoldable pub colourPaper : ℕ → ℕ → ℕ → ℕ → ℕ → List ℕ → List ℕ → Paper
+unfoldable pub colourPaper : ℕ → ℕ → ℕ → ℕ → ℕ → List ℕ → List ℕ → Paper Figures
 colourPaper w h full black order mask frame =
-    let judged = colourVerdict w h full black order mask frame in
-    let shown = centresSeen w h order mask frame in
-    record {
-      number = numberOf judged;
-      place = placeOf judged;
-      r = ifClear judged (ratioOf black (shown .r) (shown .gr)) noRatio;
-      b = ifClear judged (ratioOf black (shown .b) (shown .gr)) noRatio;
-      gb = ifClear judged (ratioOf black (shown .gb) (shown .gr)) noRatio;
-    }
+    paperFor (colourVerdict w h full black order mask frame) (colourFigures black (centresSeen w h order mask frame)) noFigures

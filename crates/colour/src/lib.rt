@@ -1,14 +1,14 @@
 // Colour ratios of the four planes' centres: document 01, "Colour ratios".
 ghost use mathlib.Core.Path.{_≡_};
 ghost use Prim.Native.Nat.{ℕ, _-_, _*_, _/_, _≤_, _<_};
-ghost use Rattle.window.specs.Plane.{boxSums};
+ghost use Rattle.plane.specs.Plane.{boxSums};
 ghost use Rattle.colour.specs.Bayer.{mosaicOf, centresOf};
 ghost use Rattle.colour.specs.Centre.{centreOf, tooSmall, someEmpty};
-ghost use Rattle.colour.specs.Colour.{aboveBlack, notAbove, ratioOf, frameVerdict, centresVerdict, colourAnswer, paperOf, colourPaper};
-use window::PlaneBox;
-use window::Refusal;
-use window::Sums;
-use window::Verdict;
+ghost use Rattle.colour.specs.Colour.{aboveBlack, notAbove, ratioOf, lentVerdict, centresVerdict, colourAnswer, paperOf, colourPaper};
+use plane::PlaneBox;
+use verdict::Refusal;
+use plane::Sums;
+use verdict::Verdict;
 
 // A ratio over Gr, unreduced.
 pub struct Ratio {
@@ -108,10 +108,10 @@ fn centres_seen(
 {
     let planes = mosaic_of(bayer_order);
     let within = centre(width, height);
-    let r = window::box_sums(width, height, planes.r, within, mask, frame);
-    let gr = window::box_sums(width, height, planes.gr, within, mask, frame);
-    let b = window::box_sums(width, height, planes.b, within, mask, frame);
-    let gb = window::box_sums(width, height, planes.gb, within, mask, frame);
+    let r = plane::box_sums(width, height, planes.r, within, mask, frame);
+    let gr = plane::box_sums(width, height, planes.gr, within, mask, frame);
+    let b = plane::box_sums(width, height, planes.b, within, mask, frame);
+    let gb = plane::box_sums(width, height, planes.gb, within, mask, frame);
     Centres { r, gr, b, gb }
 }
 
@@ -149,10 +149,10 @@ fn judge_centres(width: usize, height: usize, black_level: u64, seen: Centres) -
     requires { ⌜ («black_level» ≤ 4095) × (seen .gr .count ≤ 4096) ⌝ }
     ensures { λ r. ⌜ r ≡ centresVerdict width height «black_level» seen ⌝ }
 {
-    let small = window::refuse_if(9, 0, too_small(width, height));
-    let empty = window::refuse_if(7, 0, some_empty(seen));
-    let dark = window::refuse_if(10, 0, not_above(black_level, seen.gr));
-    window::then(small, window::then(empty, dark))
+    let small = verdict::refuse_if(9, 0, too_small(width, height));
+    let empty = verdict::refuse_if(7, 0, some_empty(seen));
+    let dark = verdict::refuse_if(10, 0, not_above(black_level, seen.gr));
+    verdict::then(small, verdict::then(empty, dark))
 }
 
 // Refusals 1 to 6, in their order.
@@ -165,21 +165,20 @@ fn judge(
     mask: &[u8],
     frame: &[u16],
 ) -> Verdict
-    ensures { λ r. ⌜ r ≡ frameVerdict width height «full_scale» «black_level» «bayer_order» (now (mask .entry)) (now (frame .entry)) ⌝ }
+    ensures { λ r. ⌜ r ≡ lentVerdict width height «full_scale» «black_level» «bayer_order» (now (mask .entry)) (now (frame .entry)) ⌝ }
 {
-    let n = window::sites(width, height);
-    let shape = window::shape(width, height, full_scale);
-    let black = window::refuse_if(3, 0, full_scale < black_level);
-    let order = window::refuse_if(3, 0, 3 < bayer_order);
-    let mask_long = window::refuse_if(4, 0, mask.len() != n);
-    let frame_long = window::refuse_if(4, 0, frame.len() != n);
-    let codes = window::codes(width, height, mask);
-    let samples = window::samples(width, height, full_scale, mask, frame);
-    let lengths = window::then(
-        mask_long,
-        window::then(frame_long, window::then(codes, samples)),
-    );
-    window::then(shape, window::then(black, window::then(order, lengths)))
+    let black = verdict::refuse_if(3, 0, full_scale < black_level);
+    let order = verdict::refuse_if(3, 0, 3 < bayer_order);
+    let numbers = verdict::then(black, order);
+    window::judge_frame(
+        width,
+        height,
+        full_scale,
+        numbers,
+        mask,
+        frame,
+        Verdict::Clear,
+    )
 }
 
 // T: the sum of sample minus black level.

@@ -11,15 +11,16 @@ use Rattle.window.proofs.Walks.{walked-whole}
 use Rattle.laws.specs.Sum.{sumTo}
 use Rattle.window.specs.Shape.{badSides, badScale, sitesOf}
 use Rattle.window.specs.View.{badCode, above, seen, one}
-use Rattle.window.specs.Verdict.{_⨟_, refuseIf, refuseFirst}
-use Rattle.window.specs.Judge.{shapeOf, otherThan, codesOf, samplesOf, walked}
-use Rattle.window.specs.declared.Refusal.{Refusal}
-use Rattle.window.specs.declared.Verdict.{Verdict}
-use Rattle.window.specs.declared.Verdict.the-variants as verdict
+use Rattle.verdict.specs.Verdict.{_⨟_, refuseIf}
+use Rattle.window.specs.Judge.{otherThan, frameVerdict, walked}
+use Rattle.verdict.specs.declared.Refusal.{Refusal}
+use Rattle.verdict.specs.declared.Verdict.{Verdict}
+use Rattle.verdict.specs.declared.Verdict.the-variants as verdict
 use Rattle.window.proofs.Sides.{scale, sites-few}
-use Rattle.window.proofs.Verdicts.{Test, Tabled, test, testFirst, tabled, passed-head, passed-tail, then-same}
-use Rattle.window.proofs.Chains.{shape-then, same-length, measured, codes-whole, samples-whole}
-use Rattle.dark.specs.Dark.{aboveBlack, darkVerdict, answered, darkAnswer, paperOf, darkPaper}
+use Rattle.verdict.proofs.Verdicts.{Test, Tabled, test, testFirst, tabled, tabled-none, tabled-then, then-same, then-clear, unless}
+use Rattle.verdict.proofs.Answers.{was-accepted}
+use Rattle.window.proofs.Judges.{frame-clear, frame-tabled}
+use Rattle.dark.specs.Dark.{aboveBlack, darkVerdict, darkAnswer, paperOf, darkPaper}
 use Rattle.dark.specs.declared.Dark.the-variants.{Level, Refused}
 
 module _ (w h full black : ℕ) (mask frame : List ℕ) where
@@ -37,24 +38,17 @@ module _ (w h full black : ℕ) (mask frame : List ℕ) where
       ∷ []
 
   pub table : Tabled (darkVerdict w h full black mask frame) tests
-  unfolding darkVerdict refuseFirst
-  table = rw shape-then (tabled _ _)
+  unfolding darkVerdict
+  table = tabled-then (frame-tabled w h full mask frame (tabled _ []) tabled-none) (tabled _ [])
 
-  -- what is judged of buffers of another length does not matter: 4 comes first
+  -- 7 is asked of what was counted in a whole mask: 4 comes first
   pub judged : (count : ℕ) → count ≡ sumTo (walked w h (length mask)) (one mask)
-      → shapeOf w h full
-      ⨟ refuseIf 3 0 (ltb full black)
-      ⨟ refuseIf 4 0 (otherThan (sitesOf w h) (length mask))
-      ⨟ refuseIf 4 0 (otherThan (sitesOf w h) (length frame))
-      ⨟ codesOf (walked w h (length mask)) mask
-      ⨟ samplesOf (min (walked w h (length mask)) (walked w h (length frame))) full (seen mask frame)
-      ⨟ refuseIf 7 0 (eqb count 0)
+      → frameVerdict w h full (refuseIf 3 0 (ltb full black)) mask frame verdict.Clear ⨟ refuseIf 7 0 (eqb count 0)
       ≡ darkVerdict w h full black mask frame
   unfolding darkVerdict
   judged count p =
-      then-same (shapeOf w h full) (λ _. then-same (refuseIf 3 0 (ltb full black)) (λ _.
-      measured (sitesOf w h) (length mask) (λ e. measured (sitesOf w h) (length frame) (λ f.
-      rw (codes-whole w h mask e, samples-whole w h full mask frame e f, p, walked-whole w h (length mask) e)))))
+      then-same (frameVerdict w h full (refuseIf 3 0 (ltb full black)) mask frame verdict.Clear)
+      (λ e. rw (p, walked-whole w h (length mask) (frame-clear w h full mask frame e .2 .of .masked)))
 
   -- what an accepted call's numbers are
   pub record Accepted : Type 0 where
@@ -65,19 +59,17 @@ module _ (w h full black : ℕ) (mask frame : List ℕ) where
     pub some : 0 < sumTo (sitesOf w h) (one mask)
 
   pub accepted : darkVerdict w h full black mask frame ≡ verdict.Clear → Accepted
+  unfolding darkVerdict
   accepted e =
-      let p₂ = passed-tail (table .clear e) in
-      let p₃ = passed-tail p₂ in
-      let p₄ = passed-tail p₃ in
-      let p₅ = passed-tail (passed-tail p₄) in
-      let s = scale full (passed-head p₂) in
-      let b = ltb-false full black (passed-head p₃) in
-      let m = same-length (sitesOf w h) (length mask) (passed-head p₄) in
-      let some = eqb-false (sumTo (sitesOf w h) (one mask)) 0 (passed-head (passed-tail (passed-tail p₅))) in
+      let both = then-clear _ _ e in
+      let lent = frame-clear w h full mask frame (both .0) in
+      let b = ltb-false full black (unless 3 0 (ltb full black) (lent .0)) in
+      let s = scale full (lent .2 .of .scaled) in
+      let some = eqb-false (sumTo (sitesOf w h) (one mask)) 0 (unless 7 0 _ (both .1)) in
       record {
-        masked = m;
-        few = omega (arith, sites-few w h);
-        framed = same-length (sitesOf w h) (length frame) (passed-head (passed-tail p₄));
+        masked = lent .2 .of .masked;
+        few = omega (arith, sites-few w h, lent .2 .of .masked);
+        framed = lent .2 .framed;
         dark = omega arith;
         some = omega arith;
       }
@@ -98,8 +90,6 @@ module _ (w h full black : ℕ) (mask frame : List ℕ) where
       → (darkVerdict w h full black mask frame ≡ verdict.Clear)
       × ((a ≡ aboveBlack (sitesOf w h) black (seen mask frame) (one mask)) × (n ≡ sumTo (sitesOf w h) (one mask)))
   unfolding darkAnswer
-  level-is a n = by (darkVerdict w h full black mask frame)
-    where
-      by : (v : Verdict) {b : ℤ} {m : ℕ} → answered v b m ≡ Level a n → (v ≡ verdict.Clear) × ((a ≡ b) × (n ≡ m))
-      by verdict.Clear e = (refl, (cc, cc))
-      by (verdict.Refused r) e = let z : _≡_ {A = ℕ} 0 1 = cc in absurd (omega arith)
+  level-is a n e =
+      let was = was-accepted (darkVerdict w h full black mask frame) (λ r f. let z : _≡_ {A = ℕ} 0 1 = cc in absurd (omega arith)) e in
+      (was .0, (cc, cc))

@@ -12,12 +12,11 @@ use Rattle.laws.proofs.Signeds.{⊖-below, ⊖-self, ⊖-cross}
 use Rattle.laws.proofs.Sole.{Sole, sole}
 use Rattle.window.specs.Shape.{sitesOf}
 use Rattle.window.specs.View.{seen, one}
-use Rattle.window.specs.Verdict.{numberOf, placeOf, ifClear}
-use Rattle.window.specs.declared.Verdict.{Verdict}
-use Rattle.window.specs.declared.Verdict.the-variants as verdict
-use Rattle.window.proofs.Verdicts.{Tabled, Refuses, refuses}
+use Rattle.window.specs.Judge.{frameVerdict}
+use Rattle.verdict.proofs.Verdicts.{Tabled, Refuses, refuses}
+use Rattle.verdict.proofs.Answers.{paper-told}
 use Rattle.window.proofs.Views.{Agree, same-view}
-use Rattle.dark.specs.Dark.{aboveBlack, darkVerdict, answered, darkAnswer, paperOf, darkPaper}
+use Rattle.dark.specs.Dark.{aboveBlack, darkVerdict, noFigures, darkAnswer, paperOf, darkPaper}
 use Rattle.dark.specs.declared.Dark.the-variants.{Level}
 use Rattle.dark.proofs.Levels.{tests, table, accepted, level-is}
 
@@ -29,12 +28,7 @@ module _ (w h full black : ℕ) (mask frame : List ℕ) where
   -- the paper's numbers are those of the answer
   pub paper-is : paperOf (darkAnswer w h full black mask frame) ≡ darkPaper w h full black mask frame
   unfolding darkAnswer darkPaper
-  paper-is = by (darkVerdict w h full black mask frame) _ _
-    where
-      by : (v : Verdict) (a : ℤ) (n : ℕ)
-          → paperOf (answered v a n) ≡ record { number = numberOf v; place = placeOf v; numerator = ifClear v a (pos 0); denominator = ifClear v n 0 }
-      by verdict.Clear a n = refl
-      by (verdict.Refused r) a n = refl
+  paper-is = paper-told paperOf (darkVerdict w h full black mask frame) refl (λ r. refl)
 
   -- given: 1 to 7 exactly as document 01 tables them, in that order (`tests` has the table)
   pub given : Tabled (darkVerdict w h full black mask frame) (tests w h full black mask frame)
@@ -42,13 +36,13 @@ module _ (w h full black : ℕ) (mask frame : List ℕ) where
 
   -- refused: where the number is not 0 the other two numbers are 0, and where it is 0 so is the place
   pub refused : Refuses (darkPaper w h full black mask frame .number) (darkPaper w h full black mask frame .place)
-      ((darkPaper w h full black mask frame .numerator ≡ pos 0) × (darkPaper w h full black mask frame .denominator ≡ 0))
+      (darkPaper w h full black mask frame .figures ≡ noFigures)
   unfolding darkPaper
-  refused = refuses (darkVerdict w h full black mask frame) given refl (λ r e. rw e (refl, refl))
+  refused = refuses (darkVerdict w h full black mask frame) given refl (λ r e. rw e)
 
   -- blind: what another frame holds at unsurveyed sites changes nothing
   pub blind : (other : List ℕ) → Agree mask frame other → darkAnswer w h full black mask frame ≡ darkAnswer w h full black mask other
-  unfolding darkAnswer darkVerdict
+  unfolding darkAnswer darkVerdict frameVerdict
   blind other a = rw (a .long, same-view a)
 
   -- of an accepted call with the level a / n

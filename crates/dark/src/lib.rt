@@ -8,8 +8,8 @@ ghost use Rattle.laws.specs.Sum.{sumTo};
 ghost use Rattle.window.specs.Judge.{walked};
 ghost use Rattle.window.specs.View.{surveyed, seen, one};
 ghost use Rattle.dark.specs.Dark.{aboveBlack, darkVerdict, darkAnswer, paperOf, darkPaper};
-use window::Refusal;
-use window::Verdict;
+use verdict::Refusal;
+use verdict::Verdict;
 
 // The numerator and the denominator, or a refusal.
 pub enum Dark {
@@ -30,17 +30,18 @@ fn judge(
     requires { ⌜ count ≡ sumTo (walked width height (length (now mask))) (one (now mask)) ⌝ }
     ensures { λ r. ⌜ r ≡ darkVerdict width height «full_scale» «black_level» (now (mask .entry)) (now (frame .entry)) ⌝ }
 {
-    let n = window::sites(width, height);
-    let shape = window::shape(width, height, full_scale);
-    let black = window::refuse_if(3, 0, full_scale < black_level);
-    let mask_long = window::refuse_if(4, 0, mask.len() != n);
-    let frame_long = window::refuse_if(4, 0, frame.len() != n);
-    let codes = window::codes(width, height, mask);
-    let samples = window::samples(width, height, full_scale, mask, frame);
-    let few = window::refuse_if(7, 0, count == 0);
-    let sites = window::then(codes, window::then(samples, few));
-    let lengths = window::then(mask_long, window::then(frame_long, sites));
-    window::then(shape, window::then(black, lengths))
+    let black = verdict::refuse_if(3, 0, full_scale < black_level);
+    let lent = window::judge_frame(
+        width,
+        height,
+        full_scale,
+        black,
+        mask,
+        frame,
+        Verdict::Clear,
+    );
+    let few = verdict::refuse_if(7, 0, count == 0);
+    verdict::then(lent, few)
 }
 
 // A value at a site of this code: 0 where it is not surveyed.

@@ -4,12 +4,10 @@
 use Prim.Native.Nat.{ℕ}
 use mathlib.Core.List.{List}
 use mathlib.Core.Path.{_≡_, refl}
-use lib.Ieee.{binary64, ofBits}
-use lib.IntN.{pos}
 use lib.ListN.{length}
-use Rattle.window.specs.Verdict.{numberOf, placeOf}
-use Rattle.window.specs.declared.Verdict.{Verdict}
-use Rattle.window.proofs.Verdicts.{Test, Tabled, Refuses}
+use Rattle.verdict.specs.Verdict.{numberOf, placeOf}
+use Rattle.verdict.specs.declared.Verdict.{Verdict}
+use Rattle.verdict.proofs.Verdicts.{Test, Tabled, Refuses}
 use Rattle.raw.specs.Unpack.{unpackVerdict, unpackPaper, unpackBuffer}
 use Rattle.raw.specs.Unpack as unpacking
 use Rattle.raw.proofs.Unpacks as raw-table
@@ -45,7 +43,7 @@ use Rattle.lines.specs.Marks.{linesVerdict, linesPaper, linesBuffer}
 use Rattle.lines.specs.Marks as line-marks
 use Rattle.lines.proofs.Marking as lines-table
 use Rattle.lines.proofs.Promises as marking
-use Rattle.colour.specs.Colour.{colourVerdict, colourPaper, noRatio}
+use Rattle.colour.specs.Colour.{colourVerdict, colourPaper}
 use Rattle.colour.specs.Colour as ratios
 use Rattle.colour.proofs.Judged as colour-table
 use Rattle.colour.proofs.Promises as colour
@@ -70,23 +68,23 @@ pub record Demand1 : Type 0 where
   pub pair-variance : (w h full : ℕ) (mask first second : List ℕ)
       → let paper = pair-answers.variancePaper w h full mask first second in
       Refusing (pairVerdict w h full mask first second) (pair.tests w h full mask first second) (paper .number) (paper .place)
-      ((paper .p ≡ 0) × (paper .q ≡ 0) × (paper .variance ≡ ofBits binary64 0))
+      (paper .figures ≡ pair-answers.noVariance)
   pub pair-noise : (w h full : ℕ) (mask first second : List ℕ)
       → let paper = pair-answers.noisePaper w h full mask first second in
       Refusing (pairVerdict w h full mask first second) (pair.tests w h full mask first second) (paper .number) (paper .place)
-      ((paper .noise ≡ ofBits binary64 0) × (paper .r ≡ 0) × (paper .n ≡ 0))
+      (paper .figures ≡ pair-answers.noNoise)
   pub dark-level : (w h full black : ℕ) (mask frame : List ℕ)
       → let paper = darkPaper w h full black mask frame in
       Refusing (darkVerdict w h full black mask frame) (dark-table.tests w h full black mask frame) (paper .number) (paper .place)
-      ((paper .numerator ≡ pos 0) × (paper .denominator ≡ 0))
+      (paper .figures ≡ levels.noFigures)
   pub stack-add : (w h full k : ℕ) (mask frame sums squares : List ℕ)
       → let paper = addPaper w h full k mask frame sums squares in
       Refusing (addVerdict w h full k mask frame sums squares) (add-table.tests w h full k mask frame sums squares) (paper .number) (paper .place)
-      ((paper .count ≡ 0) × (addSums w h full k mask frame sums squares ≡ sums) × (addSquares w h full k mask frame sums squares ≡ squares))
+      ((paper .figures ≡ 0) × (addSums w h full k mask frame sums squares ≡ sums) × (addSquares w h full k mask frame sums squares ≡ squares))
   pub stack-variance : (w h full k : ℕ) (mask sums squares : List ℕ)
       → let paper = variance.variancePaper w h full k mask sums squares in
       Refusing (variance.varianceVerdict w h full k mask sums squares) (variance-table.tests w h full k mask sums squares) (paper .number) (paper .place)
-      ((paper .numerator ≡ 0) × (paper .denominator ≡ 0) × (paper .variance ≡ ofBits binary64 0))
+      (paper .figures ≡ variance.noVariance)
   -- of columns it is the vertical call, of rows the horizontal one
   pub pattern-noise : (lines : ℕ → ℕ → pattern-lines.Lines) (w h full k : ℕ) (mask sums : List ℕ)
       → let paper = patternPaper lines w h full k mask sums in
@@ -95,11 +93,11 @@ pub record Demand1 : Type 0 where
   pub find-defects : (w h full t : ℕ) (mask frame out : List ℕ)
       → let paper = findPaper w h full t mask frame (length out) in
       Refusing (findVerdict w h full t mask frame (length out)) (find-tests w h full t mask frame (length out)) (paper .number) (paper .place)
-      ((paper .count ≡ 0) × (findMask w h full t mask frame out ≡ out))
+      ((paper .figures ≡ 0) × (findMask w h full t mask frame out ≡ out))
   pub repair : (w h full : ℕ) (mask frame outFrame outMask : List ℕ)
       → let paper = repairPaper w h full mask frame (length outFrame) (length outMask) in
       Refusing (repairVerdict w h full mask frame (length outFrame) (length outMask)) (repair-tests w h full mask frame (length outFrame) (length outMask)) (paper .number) (paper .place)
-      ((paper .count ≡ 0)
+      ((paper .figures ≡ 0)
       × (repairFrame w h full mask frame outFrame (length outMask) ≡ outFrame)
       × (repairMask w h full mask frame (length outFrame) outMask ≡ outMask))
   -- of rows and of columns
@@ -110,11 +108,11 @@ pub record Demand1 : Type 0 where
   pub colour-ratios : (w h full black order : ℕ) (mask frame : List ℕ)
       → let paper = colourPaper w h full black order mask frame in
       Refusing (colourVerdict w h full black order mask frame) (colour-table.tests w h full black order mask frame) (paper .number) (paper .place)
-      ((paper .r ≡ noRatio) × (paper .b ≡ noRatio) × (paper .gb ≡ noRatio))
+      (paper .figures ≡ ratios.noFigures)
   pub job : (s : List ℕ)
       → let paper = jobPaper s in
       Refusing (jobVerdict s) (stream.tests s) (paper .number) (paper .place)
-      ((paper .sites ≡ 0) × (paper .p ≡ 0) × (paper .q ≡ 0) × (paper .r ≡ 0) × (paper .rOver ≡ 0) × (paper .dark ≡ pos 0) × (paper .darkOver ≡ 0))
+      (paper .figures ≡ jobs.noFigures)
 
 pub demand-1 : Demand1
 unfolding unpackPaper pair-answers.variancePaper pair-answers.noisePaper darkPaper addPaper variance.variancePaper patternPaper findPaper repairPaper linesPaper colourPaper jobPaper
@@ -149,9 +147,9 @@ pub record Numbers : Type 0 where
   pub pattern-noise : (lines : ℕ → ℕ → pattern-lines.Lines) (w h full k : ℕ) (mask sums : List ℕ)
       → patterns.paperOf (patterns.patternAnswer lines w h full k mask sums) ≡ patternPaper lines w h full k mask sums
   pub find-defects : (w h full t : ℕ) (mask frame out : List ℕ)
-      → searches.foundPaperOf (searches.findAnswer w h full t mask frame (length out)) ≡ findPaper w h full t mask frame (length out)
+      → searches.findPaperOf (searches.findAnswer w h full t mask frame (length out)) ≡ findPaper w h full t mask frame (length out)
   pub repair : (w h full : ℕ) (mask frame outFrame outMask : List ℕ)
-      → repairs.filledPaperOf (repairs.repairAnswer w h full mask frame (length outFrame) (length outMask))
+      → repairs.repairPaperOf (repairs.repairAnswer w h full mask frame (length outFrame) (length outMask))
       ≡ repairPaper w h full mask frame (length outFrame) (length outMask)
   pub defective-lines : (lines : ℕ → ℕ → plane-lines.Lines) (w h full : ℕ) (mask frame marks : List ℕ)
       → line-marks.paperOf (line-marks.linesAnswer lines w h full mask frame (length marks)) ≡ linesPaper lines w h full mask frame (length marks)

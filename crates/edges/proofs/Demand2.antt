@@ -9,7 +9,7 @@ use mathlib.Core.Path.{_≡_}
 use lib.ListN.{length, getD}
 use Rattle.window.specs.Shape.{sitesOf}
 use Rattle.window.specs.View.{surveyed}
-use Rattle.window.specs.declared.Verdict.the-variants as verdict
+use Rattle.verdict.specs.declared.Verdict.the-variants as verdict
 use Rattle.window.proofs.Views.{Agree}
 use Rattle.pair.specs.Answers as pair-answers
 use Rattle.pair.proofs.Promises as pair

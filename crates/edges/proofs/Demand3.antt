@@ -46,8 +46,8 @@ module _ (w h full : ℕ) (mask first second : List ℕ) where
 
   -- so for any two accepted frames, of all numbers of both answers
   pub demand-3 : variancePaper w h full mask first second .number ≡ 0
-      → let v = variancePaper w h full mask first second in
-      let z = noisePaper w h full mask first second in
+      → let v = variancePaper w h full mask first second .figures in
+      let z = noisePaper w h full mask first second .figures in
       Demand3 w h full mask first second (v .p) (v .q) (v .variance) (z .noise) (z .r) (z .n)
   unfolding spreadOf
   demand-3 accepted =

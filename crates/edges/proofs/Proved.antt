@@ -7,9 +7,9 @@ use Rattle.laws.specs.Greatest.{greatestTo}
 use Rattle.laws.specs.Signed.{_⊖_, sumToℤ}
 use Rattle.laws.specs.Sum.{sumTo, sumIn, sumBox}
 use Rattle.laws.specs.Table.{tabulate}
-use Rattle.window.specs.Judge.{shapeOf}
-use Rattle.window.specs.Plane.{boxSum}
-use Rattle.window.specs.Verdict.{_⨟_, refuseIf, refuseFirst}
+use Rattle.window.specs.Judge.{shapeOf, maskVerdict, frameVerdict}
+use Rattle.plane.specs.Plane.{boxSum}
+use Rattle.verdict.specs.Verdict.{_⨟_, refuseIf, refuseFirst}
 use Rattle.window.specs.View.{seenAt, seen, one}
 use Rattle.exact.specs.Root.{root, rootTo}
 use Rattle.raw.specs.Packed.{joined, sampleAt}
@@ -27,7 +27,7 @@ use Rattle.lines.specs.Marks.{linesVerdict, linesAnswer, linesBuffer}
 use Rattle.edges.specs.Table.{Edges, Beside}
 
 pub edges : Edges
-unfolding round ofBits firstTo greatestTo _⊖_ sumToℤ sumTo sumIn sumBox tabulate shapeOf boxSum badSide badSides badScale sitesOf _⨟_ refuseIf refuseFirst seenAt seen one root rootTo joined sampleAt unpackVerdict unpackAnswer unpackBuffer numerator spreadOf framesVerdict pairVerdict varianceAnswer noiseAnswer aboveBlack darkVerdict darkAnswer nearSum usedThreshold far foundAt markedAt foundCount findVerdict findAnswer findMask lineTotal stepOf standsOut deviation figuresOf badCount patternVerdict patternAnswer before after pooled defective markOf markAt linesVerdict linesAnswer linesBuffer
+unfolding round ofBits firstTo greatestTo _⊖_ sumToℤ sumTo sumIn sumBox tabulate shapeOf maskVerdict frameVerdict boxSum badSide badSides badScale sitesOf _⨟_ refuseIf refuseFirst seenAt seen one root rootTo joined sampleAt unpackVerdict unpackAnswer unpackBuffer numerator spreadOf framesVerdict pairVerdict varianceAnswer noiseAnswer aboveBlack darkVerdict darkAnswer nearSum usedThreshold far foundAt markedAt foundCount findVerdict findAnswer findMask lineTotal stepOf standsOut deviation figuresOf badCount patternVerdict patternAnswer before after pooled defective markOf markAt linesVerdict linesAnswer linesBuffer
 edges = record {
   K1 = (refl, refl, refl);
   K2 = (refl, refl, refl);
@@ -42,5 +42,5 @@ edges = record {
 }
 
 pub beside : Beside
-unfolding firstTo greatestTo _⊖_ sumTo sumIn sumBox tabulate shapeOf boxSum badSide badSides badScale sitesOf _⨟_ refuseIf refuseFirst seenAt seen one lineTotal stepOf standsOut deviation figuresOf badCount patternVerdict patternAnswer before after pooled defective markOf markAt linesVerdict linesBuffer
+unfolding firstTo greatestTo _⊖_ sumTo sumIn sumBox tabulate shapeOf maskVerdict frameVerdict boxSum badSide badSides badScale sitesOf _⨟_ refuseIf refuseFirst seenAt seen one lineTotal stepOf standsOut deviation figuresOf badCount patternVerdict patternAnswer before after pooled defective markOf markAt linesVerdict linesBuffer
 beside = record { below-zero = refl; met-unmarked = refl; met-marked = refl }

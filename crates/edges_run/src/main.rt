@@ -2,7 +2,7 @@
 use pair::Noise;
 use raw::Unpacked;
 use stack::Added;
-use window::Refusal;
+use verdict::Refusal;
 
 fn refused(refusal: Refusal) {
     io::write_all(1, b"refused ");

@@ -2,7 +2,7 @@
 ghost use mathlib.Core.Path.{_≡_};
 ghost use lib.IntN.{natAbs};
 use stream::Answer;
-use window::Refusal;
+use verdict::Refusal;
 
 // The size of a signed number.
 fn size(z: i64) -> u64

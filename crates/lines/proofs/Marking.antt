@@ -11,14 +11,14 @@ use borrow.Author.Tests.{ltb-false}
 use Rattle.laws.specs.Table.{tabulate}
 use Rattle.window.specs.Shape.{badSides, badScale, sitesOf}
 use Rattle.window.specs.View.{badCode, above, seen, one}
-use Rattle.window.specs.Verdict.{refusal, _⨟_, refuseIf, refuseFirst}
+use Rattle.verdict.specs.Verdict.{refusal, _⨟_, refuseIf, refuseFirst}
 use Rattle.window.specs.Judge.{shapeOf, otherThan, codesOf, samplesOf, walked}
-use Rattle.window.specs.declared.Refusal.{Refusal}
-use Rattle.window.specs.declared.Verdict.{Verdict}
-use Rattle.window.specs.declared.Verdict.the-variants as verdict
+use Rattle.verdict.specs.declared.Refusal.{Refusal}
+use Rattle.verdict.specs.declared.Verdict.{Verdict}
+use Rattle.verdict.specs.declared.Verdict.the-variants as verdict
 use Rattle.window.proofs.Sides.{Sides, sides}
 use Rattle.window.proofs.Walks.{walked-whole}
-use Rattle.window.proofs.Verdicts.{Test, Tabled, test, testFirst, tabled, passed-head, passed-tail, then-same}
+use Rattle.verdict.proofs.Verdicts.{Test, Tabled, test, testFirst, tabled, passed-head, passed-tail, then-same}
 use Rattle.window.proofs.Chains.{shape-then, shape-clear, same-length, measured, codes-whole, samples-whole}
 use Rattle.lines.specs.Lines.{Lines, markAt}
 use Rattle.lines.specs.Walk.{lined}

@@ -11,10 +11,10 @@ use Rattle.laws.specs.Sum.{sumIn}
 use Rattle.laws.proofs.Sums.{in-ext}
 use Rattle.window.specs.View.{seen, one}
 use Rattle.window.specs.Judge.{walked}
-use Rattle.window.specs.Plane.{boxSums}
-use Rattle.window.specs.declared.PlaneBox.{PlaneBox}
-use Rattle.window.specs.declared.Sums.{Sums}
-use Rattle.window.proofs.Planes.{sums-whole}
+use Rattle.plane.specs.Plane.{boxSums}
+use Rattle.plane.specs.declared.PlaneBox.{PlaneBox}
+use Rattle.plane.specs.declared.Sums.{Sums}
+use Rattle.plane.proofs.Planes.{sums-whole}
 use Rattle.lines.specs.Lines.{Lines, before, after, pooled, defective, markOf, lineSum, markAt}
 
 -- what is seen in the box of a line is what the line counts and sums

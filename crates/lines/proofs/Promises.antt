@@ -12,12 +12,12 @@ use Rattle.laws.specs.Table.{tabulate}
 use Rattle.laws.proofs.Tables.{getD-tabulate, tabulate-ext}
 use Rattle.laws.proofs.Sole.{Sole, sole}
 use Rattle.window.specs.View.{surveyed, seen, one}
-use Rattle.window.specs.Plane.{siteAt}
-use Rattle.window.specs.Verdict.{refusal, numberOf, placeOf}
-use Rattle.window.specs.declared.Verdict.{Verdict}
-use Rattle.window.specs.declared.Verdict.the-variants as verdict
-use Rattle.window.proofs.Planes.{site-in}
-use Rattle.window.proofs.Verdicts.{Tabled, Refuses, refuses}
+use Rattle.plane.specs.Plane.{siteAt}
+use Rattle.verdict.specs.Verdict.{refusal, numberOf, placeOf}
+use Rattle.verdict.specs.declared.Verdict.{Verdict}
+use Rattle.verdict.specs.declared.Verdict.the-variants as verdict
+use Rattle.plane.proofs.Planes.{site-in}
+use Rattle.verdict.proofs.Verdicts.{Tabled, Refuses, refuses}
 use Rattle.window.proofs.Views.{Agree, same-view}
 use Rattle.lines.specs.Lines.{Lines, rows, columns, markOf, lineSum, markAt}
 use Rattle.lines.specs.Marks.{linesVerdict, answered, linesAnswer, paperOf, linesPaper, linesBuffer}

@@ -13,8 +13,8 @@ use Rattle.laws.specs.Sum.{sumTo, sumIn}
 use Rattle.laws.specs.Signed.{apart}
 use Rattle.laws.proofs.Sums.{in-shift, box-shift}
 use Rattle.window.specs.View.{surveyed, seenAt, seen, one}
-use Rattle.window.specs.Plane.{siteAt, boxSum}
-use Rattle.window.proofs.Planes.{box-at-most, seen-scaled}
+use Rattle.plane.specs.Plane.{siteAt, boxSum}
+use Rattle.plane.proofs.Planes.{box-at-most, seen-scaled}
 use Rattle.lines.specs.Lines.{Lines, before, after, pooled, defective, markOf, lineSum}
 use Rattle.lines.proofs.Pools.{before-in, after-in}
 

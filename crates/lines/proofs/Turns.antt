@@ -17,12 +17,12 @@ use Rattle.laws.proofs.Tables.{length-tabulate, getD-tabulate}
 use Rattle.window.specs.Shape.{badSide, badSides, sitesOf}
 use Rattle.window.specs.View.{badCode, above, seenAt, seen, one}
 use Rattle.window.specs.Judge.{otherThan}
-use Rattle.window.specs.Plane.{rowParity, columnParity, siteAt, boxSum}
-use Rattle.window.specs.declared.Verdict.the-variants as verdict
+use Rattle.plane.specs.Plane.{rowParity, columnParity, siteAt, boxSum}
+use Rattle.verdict.specs.declared.Verdict.the-variants as verdict
 use Rattle.window.proofs.Sides.{sides}
 use Rattle.window.proofs.Views.{seen-is, one-is}
-use Rattle.window.proofs.Planes.{site-in, site-row, site-column}
-use Rattle.window.proofs.Verdicts.{past, end, passed-head, passed-tail}
+use Rattle.plane.proofs.Planes.{site-in, site-row, site-column}
+use Rattle.verdict.proofs.Verdicts.{past, end, passed-head, passed-tail}
 use Rattle.lines.specs.Lines.{rows, columns, markOf, lineSum}
 use Rattle.lines.specs.Marks.{linesVerdict}
 use Rattle.lines.proofs.Pools.{mark-ext}

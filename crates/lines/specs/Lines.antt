@@ -4,8 +4,8 @@ use mathlib.Core.Bool.{Bool, cond, _&&_}
 use lib.Dec.{ltb}
 use Rattle.laws.specs.Sum.{sumIn}
 use Rattle.laws.specs.Signed.{apart}
-use Rattle.window.specs.Plane.{boxSum}
-use Rattle.window.specs.declared.PlaneBox.{PlaneBox}
+use Rattle.plane.specs.Plane.{boxSum}
+use Rattle.plane.specs.declared.PlaneBox.{PlaneBox}
 
 -- the lines of a plane in one direction: how many, and line l as a box of the plane's coordinates
 pub record Lines : Type 0 where

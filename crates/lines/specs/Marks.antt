@@ -4,13 +4,12 @@ use mathlib.Core.List.{List}
 use lib.Dec.{ltb}
 use lib.ListN.{length}
 use Rattle.laws.specs.Table.{tabulate}
-use Rattle.window.specs.Shape.{sitesOf}
 use Rattle.window.specs.View.{seen, one}
-use Rattle.window.specs.Verdict.{refusal, _⨟_, refuseIf, numberOf, placeOf, ifClear}
-use Rattle.window.specs.Judge.{shapeOf, otherThan, codesOf, samplesOf}
-use Rattle.window.specs.declared.Refusal.{Refusal}
-use Rattle.window.specs.declared.Verdict.{Verdict}
-use Rattle.window.specs.declared.Verdict.the-variants as verdict
+use Rattle.verdict.specs.Verdict.{_⨟_, refuseIf, ifClear}
+use Rattle.verdict.specs.Answer.{answerOf, Paper, acceptedPaper, refusedPaper, paperFor, NoFigures, noFigures}
+use Rattle.window.specs.Judge.{otherThan, frameVerdict}
+use Rattle.verdict.specs.declared.Verdict.{Verdict}
+use Rattle.verdict.specs.declared.Verdict.the-variants as verdict
 use Rattle.lines.specs.Lines.{Lines, markAt}
 use Rattle.lines.specs.declared.Marked.{Marked}
 use Rattle.lines.specs.declared.Marked.the-variants.{Done, Refused}
@@ -22,30 +21,21 @@ marksOf lines = 4 * lines .count
 -- the refusals in their order, for a buffer of so many marks
 unfoldable pub linesVerdict : (ℕ → ℕ → Lines) → ℕ → ℕ → ℕ → List ℕ → List ℕ → ℕ → Verdict
 linesVerdict lines w h full mask frame marks =
-    shapeOf w h full
-    ⨟ refuseIf 4 0 (otherThan (sitesOf w h) (length mask))
-    ⨟ refuseIf 4 0 (otherThan (sitesOf w h) (length frame))
-    ⨟ refuseIf 4 0 (otherThan (marksOf (lines w h)) marks)
-    ⨟ codesOf (sitesOf w h) mask
-    ⨟ samplesOf (sitesOf w h) full (seen mask frame)
+    frameVerdict w h full verdict.Clear mask frame (refuseIf 4 0 (otherThan (marksOf (lines w h)) marks))
     ⨟ refuseIf 9 0 (ltb (lines w h .count) 9)
 
-abbrev pub answered : Verdict → Marked
-answered verdict.Clear = Done
-answered (verdict.Refused r) = Refused r
-
+-- the answer: done, or the refusal
 unfoldable pub linesAnswer : (ℕ → ℕ → Lines) → ℕ → ℕ → ℕ → List ℕ → List ℕ → ℕ → Marked
-linesAnswer lines w h full mask frame marks = answered (linesVerdict lines w h full mask frame marks)
+linesAnswer lines w h full mask frame marks = answerOf (linesVerdict lines w h full mask frame marks) Done Refused
 
--- the paper's numbers of an answer: a refusal's number and place, 0 and 0 where it is accepted
-abbrev pub paperOf : Marked → Refusal
-paperOf Done = refusal 0 0
-paperOf (Refused r) = r
+-- the paper's numbers of an answer
+abbrev pub paperOf : Marked → Paper NoFigures
+paperOf Done = acceptedPaper noFigures
+paperOf (Refused r) = refusedPaper r noFigures
 
 -- the paper's numbers for all inputs
-unfoldable pub linesPaper : (ℕ → ℕ → Lines) → ℕ → ℕ → ℕ → List ℕ → List ℕ → ℕ → Refusal
-linesPaper lines w h full mask frame marks =
-    refusal (numberOf (linesVerdict lines w h full mask frame marks)) (placeOf (linesVerdict lines w h full mask frame marks))
+unfoldable pub linesPaper : (ℕ → ℕ → Lines) → ℕ → ℕ → ℕ → List ℕ → List ℕ → ℕ → Paper NoFigures
+linesPaper lines w h full mask frame marks = paperFor (linesVerdict lines w h full mask frame marks) noFigures noFigures
 
 -- the buffer `marks` afterwards: every mark, or all as it was
 unfoldable pub linesBuffer : (ℕ → ℕ → Lines) → ℕ → ℕ → ℕ → List ℕ → List ℕ → List ℕ → List ℕ

@@ -8,10 +8,10 @@ ghost use Rattle.window.specs.Judge.{walked};
 ghost use Rattle.lines.specs.Lines.{rows, columns, before, after, pooled, defective, markOf, lineSum, markAt};
 ghost use Rattle.lines.specs.Walk.{lined};
 ghost use Rattle.lines.specs.Marks.{linesVerdict, linesAnswer, paperOf, linesPaper, linesBuffer};
-use window::PlaneBox;
-use window::Refusal;
-use window::Sums;
-use window::Verdict;
+use plane::PlaneBox;
+use verdict::Refusal;
+use plane::Sums;
+use verdict::Verdict;
 
 pub enum Marked {
     Done,
@@ -44,18 +44,19 @@ fn judge(
 ) -> Verdict
     ensures { λ r. ⌜ r ≡ linesVerdict (lined vertical) width height «full_scale» (now (mask .entry)) (now (frame .entry)) marks ⌝ }
 {
-    let n = window::sites(width, height);
     let lines = lines_of(vertical, width, height);
-    let shape = window::shape(width, height, full_scale);
-    let masked = window::refuse_if(4, 0, mask.len() != n);
-    let framed = window::refuse_if(4, 0, frame.len() != n);
-    let marked = window::refuse_if(4, 0, marks != marks_of(lines));
-    let codes = window::codes(width, height, mask);
-    let samples = window::samples(width, height, full_scale, mask, frame);
-    let small = window::refuse_if(9, 0, lines < 9);
-    let sites = window::then(codes, window::then(samples, small));
-    let lengths = window::then(masked, window::then(framed, window::then(marked, sites)));
-    window::then(shape, lengths)
+    let marked = verdict::refuse_if(4, 0, marks != marks_of(lines));
+    let lent = window::judge_frame(
+        width,
+        height,
+        full_scale,
+        Verdict::Clear,
+        mask,
+        frame,
+        marked,
+    );
+    let small = verdict::refuse_if(9, 0, lines < 9);
+    verdict::then(lent, small)
 }
 
 // Line l as a box of its plane's coordinates.
@@ -95,7 +96,7 @@ fn line_sums(
     ensures { λ r. ⌜ r .total ≡ lineSum (lined vertical width height) width height plane (seen (now (mask .entry)) (now (frame .entry))) l ⌝ }
     ensures { λ r. ⌜ (r .count ≤ 268431360) × (r .total ≤ 268431360) ⌝ }
 {
-    window::box_sums(
+    plane::box_sums(
         width,
         height,
         plane,

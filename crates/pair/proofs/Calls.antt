@@ -8,9 +8,9 @@ use Rattle.exact.specs.Root.{root}
 use Rattle.exact.specs.Quotient.{quotientOrZero}
 use Rattle.exact.proofs.Quotients.{ranged-quotient}
 use Rattle.exact.proofs.Noises.{variance-ranged, noise-ranged}
-use Rattle.window.specs.declared.Refusal.{Refusal}
-use Rattle.window.specs.declared.Verdict.{Verdict}
-use Rattle.window.specs.declared.Verdict.the-variants as verdict
+use Rattle.verdict.specs.declared.Refusal.{Refusal}
+use Rattle.verdict.specs.declared.Verdict.{Verdict}
+use Rattle.verdict.specs.declared.Verdict.the-variants as verdict
 use Rattle.pair.specs.Pair.{Figures, figuresOf, pairSpread, pairVerdict}
 use Rattle.pair.specs.Answers.{varianceAnswered, noiseAnswered, varianceAnswer, variancePaperOf, variancePaper, noiseAnswer, noisePaperOf, noisePaper}
 use Rattle.pair.specs.declared.Spread.{Spread}

@@ -5,12 +5,12 @@ use mathlib.Core.Path.{_≡_, ap}
 use lib.ListN.{length}
 use Rattle.window.specs.Shape.{sitesOf}
 use Rattle.window.specs.View.{seen}
-use Rattle.window.specs.Verdict.{_⨟_, refuseIf}
+use Rattle.verdict.specs.Verdict.{_⨟_, refuseIf}
 use Rattle.window.specs.Judge.{shapeOf, otherThan, codesOf, samplesOf, walked}
-use Rattle.window.specs.declared.Verdict.{Verdict}
-use Rattle.window.specs.declared.Verdict.the-variants as verdict
+use Rattle.verdict.specs.declared.Verdict.{Verdict}
+use Rattle.verdict.specs.declared.Verdict.the-variants as verdict
 use Rattle.window.proofs.Sides.{Sides, Scale}
-use Rattle.window.proofs.Verdicts.{then-clear, unless}
+use Rattle.verdict.proofs.Verdicts.{then-clear, unless}
 use Rattle.window.proofs.Chains.{shape-clear, same-length, samples-clear, measured, codes-whole, samples-whole}
 use Rattle.pair.specs.Pair.{framesVerdict}
 

@@ -15,12 +15,12 @@ use Rattle.laws.proofs.Cases.{times-le}
 use Rattle.exact.proofs.Noises.{Measured}
 use Rattle.window.specs.Shape.{sitesOf}
 use Rattle.window.specs.View.{one, seen}
-use Rattle.window.specs.Verdict.{_⨟_, refuseIf}
-use Rattle.window.specs.declared.Refusal.{Refusal}
-use Rattle.window.specs.declared.Verdict.{Verdict}
-use Rattle.window.specs.declared.Verdict.the-variants as verdict
+use Rattle.verdict.specs.Verdict.{_⨟_, refuseIf}
+use Rattle.verdict.specs.declared.Refusal.{Refusal}
+use Rattle.verdict.specs.declared.Verdict.{Verdict}
+use Rattle.verdict.specs.declared.Verdict.the-variants as verdict
 use Rattle.window.proofs.Sides.{sites-few}
-use Rattle.window.proofs.Verdicts.{then-clear, then-end, unless}
+use Rattle.verdict.proofs.Verdicts.{then-clear, then-end, unless}
 use Rattle.window.proofs.Views.{one-le}
 use Rattle.pair.specs.Pair.{spreadOf, pairSpread, framesVerdict, pairVerdict}
 use Rattle.pair.specs.Walk.{measurement}

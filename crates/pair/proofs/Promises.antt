@@ -20,11 +20,11 @@ use Rattle.exact.proofs.Quotients.{quotient-zero, zero-bits}
 use Rattle.exact.proofs.Noises.{variance-ranged, variance-near, noise-near, noise-plain, noise-zero}
 use Rattle.window.specs.Shape.{badSides, badScale, sitesOf}
 use Rattle.window.specs.View.{badCode, above, seen, one}
-use Rattle.window.specs.Verdict.{_⨟_, refuseIf, refuseFirst, numberOf, placeOf, ifClear}
+use Rattle.verdict.specs.Verdict.{_⨟_, refuseIf, refuseFirst, numberOf, placeOf, ifClear}
 use Rattle.window.specs.Judge.{shapeOf, otherThan}
-use Rattle.window.specs.declared.Verdict.{Verdict}
-use Rattle.window.specs.declared.Verdict.the-variants as verdict
-use Rattle.window.proofs.Verdicts.{Test, Tabled, Refuses, test, testFirst, tabled, refuses, zero-clear, then-assoc, then-same}
+use Rattle.verdict.specs.declared.Verdict.{Verdict}
+use Rattle.verdict.specs.declared.Verdict.the-variants as verdict
+use Rattle.verdict.proofs.Verdicts.{Test, Tabled, Refuses, test, testFirst, tabled, refuses, zero-clear, then-assoc, then-same}
 use Rattle.window.proofs.Views.{Agree, same-view}
 use Rattle.pair.specs.Pair.{difference, numerator, spreadOf, pairSpread, Figures, figuresOf, framesVerdict, pairVerdict}
 use Rattle.pair.specs.Answers.{varianceAnswered, varianceAnswer, variancePaperOf, variancePaper, noiseAnswered, noiseAnswer, noisePaperOf, noisePaper}

@@ -11,9 +11,10 @@ use Rattle.exact.specs.Root.{root}
 use Rattle.exact.specs.Quotient.{quotient}
 use Rattle.window.specs.Shape.{sitesOf}
 use Rattle.window.specs.View.{one, seen}
-use Rattle.window.specs.Verdict.{_⨟_, refuseIf}
-use Rattle.window.specs.Judge.{shapeOf, otherThan, codesOf, samplesOf}
-use Rattle.window.specs.declared.Verdict.{Verdict}
+use Rattle.verdict.specs.Verdict.{_⨟_, refuseIf}
+use Rattle.window.specs.Judge.{lengthOf, samplesOf, frameVerdict}
+use Rattle.verdict.specs.declared.Verdict.{Verdict}
+use Rattle.verdict.specs.declared.Verdict.the-variants as verdict
 use Rattle.pair.specs.declared.Spread.{Spread}
 
 -- d: second frame minus first at a surveyed site; at any other, both are seen as 0
@@ -55,12 +56,7 @@ figuresOf s = record {
 -- the refusals of both calls in their order: those of the window and of what is lent, the first frame's sites before the second's
 unfoldable pub framesVerdict : ℕ → ℕ → ℕ → List ℕ → List ℕ → List ℕ → Verdict
 framesVerdict w h full mask first second =
-    shapeOf w h full
-    ⨟ refuseIf 4 0 (otherThan (sitesOf w h) (length mask))
-    ⨟ refuseIf 4 0 (otherThan (sitesOf w h) (length first))
-    ⨟ refuseIf 4 0 (otherThan (sitesOf w h) (length second))
-    ⨟ codesOf (sitesOf w h) mask
-    ⨟ samplesOf (sitesOf w h) full (seen mask first)
+    frameVerdict w h full verdict.Clear mask first (lengthOf w h (length second))
     ⨟ samplesOf (sitesOf w h) full (seen mask second)
 
 -- then fewer than 2 surveyed sites, and P of 2^53 or more

@@ -2,8 +2,8 @@
 use Prim.Native.Nat.{ℕ, _*_}
 use Rattle.laws.specs.Sum.{sumTo}
 use Rattle.laws.specs.Signed.{apart}
-use Rattle.window.specs.declared.Verdict.{Verdict}
-use Rattle.window.specs.declared.Verdict.the-variants as verdict
+use Rattle.verdict.specs.declared.Verdict.{Verdict}
+use Rattle.verdict.specs.declared.Verdict.the-variants as verdict
 use Rattle.pair.specs.declared.Spread.{Spread}
 use Rattle.pair.specs.declared.Totals.{Totals}
 use Rattle.pair.specs.declared.Measurement.{Measurement}

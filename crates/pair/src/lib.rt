@@ -7,8 +7,8 @@ ghost use Rattle.window.specs.View.{one, seen};
 ghost use Rattle.pair.specs.Walk.{totalsOf, measurement};
 ghost use Rattle.pair.specs.Pair.{spreadOf, pairSpread, framesVerdict, pairVerdict};
 ghost use Rattle.pair.specs.Answers.{varianceAnswer, variancePaperOf, variancePaper, noiseAnswer, noisePaperOf, noisePaper};
-use window::Refusal;
-use window::Verdict;
+use verdict::Refusal;
+use verdict::Verdict;
 
 // P, Q and P/Q.
 pub enum Variance {
@@ -52,21 +52,18 @@ fn judge(
 ) -> Verdict
     ensures { λ r. ⌜ r ≡ framesVerdict width height «full_scale» (now (mask .entry)) (now (first .entry)) (now (second .entry)) ⌝ }
 {
-    let needed = window::sites(width, height);
-    let shape = window::shape(width, height, full_scale);
-    let of_mask = window::refuse_if(4, 0, mask.len() != needed);
-    let of_first = window::refuse_if(4, 0, first.len() != needed);
-    let of_second = window::refuse_if(4, 0, second.len() != needed);
-    let codes = window::codes(width, height, mask);
-    let over_first = window::samples(width, height, full_scale, mask, first);
-    let over_second = window::samples(width, height, full_scale, mask, second);
-    let over = window::then(over_first, over_second);
-    let sites = window::then(codes, over);
-    let lent = window::then(
-        of_mask,
-        window::then(of_first, window::then(of_second, sites)),
+    let lent = window::length(width, height, second.len());
+    let of_first = window::judge_frame(
+        width,
+        height,
+        full_scale,
+        Verdict::Clear,
+        mask,
+        first,
+        lent,
     );
-    window::then(shape, lent)
+    let of_second = window::samples(width, height, full_scale, mask, second);
+    verdict::then(of_first, of_second)
 }
 
 // |d| of two samples, at 16 bits: with exact::apart, at 64, the call takes twice the time.
@@ -144,9 +141,9 @@ fn measure(
         return Measurement::Refused(refusal);
     }
     let s = spread_of(mask, first, second);
-    let few = window::refuse_if(7, 0, s.n < 2);
-    let large = window::refuse_if(14, 0, exact::LOSSLESS <= s.p);
-    match window::then(few, large) {
+    let few = verdict::refuse_if(7, 0, s.n < 2);
+    let large = verdict::refuse_if(14, 0, exact::LOSSLESS <= s.p);
+    match verdict::then(few, large) {
         Verdict::Refused(refusal) => Measurement::Refused(refusal),
         Verdict::Clear => Measurement::Taken(s),
     }

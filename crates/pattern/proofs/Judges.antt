@@ -12,11 +12,11 @@ use Rattle.window.specs.Shape.{badCount, badSides, badScale, sitesOf}
 use Rattle.laws.specs.First.{someTo}
 use Rattle.laws.proofs.Firsts.{first-nowhere, first-ext}
 use Rattle.window.specs.View.{codeAbove, badCode, surveyed, seen, above}
-use Rattle.window.specs.Verdict.{_⨟_, refuseIf, refuseFirst}
+use Rattle.verdict.specs.Verdict.{_⨟_, refuseIf, refuseFirst}
 use Rattle.window.specs.Judge.{shapeOf, otherThan, codesOf, walked}
-use Rattle.window.specs.declared.Refusal.{Refusal}
-use Rattle.window.specs.declared.Verdict.the-variants as verdict
-use Rattle.window.proofs.Verdicts.{Test, Tabled, test, testFirst, tabled, passed-head, passed-tail, then-same, unless}
+use Rattle.verdict.specs.declared.Refusal.{Refusal}
+use Rattle.verdict.specs.declared.Verdict.the-variants as verdict
+use Rattle.verdict.proofs.Verdicts.{Test, Tabled, test, testFirst, tabled, passed-head, passed-tail, then-same, unless}
 use Rattle.window.proofs.Chains.{shape-then, shape-clear, same-length, in-range, measured, codes-whole}
 use Rattle.window.proofs.Views.{seen-is, seen-in}
 use Rattle.pattern.specs.Lines.{Lines, lineTotal}

@@ -9,10 +9,10 @@ use lib.IntN.{pos, natAbs}
 use Rattle.laws.proofs.Cases.{times-le}
 use Rattle.laws.proofs.Sole.{Sole, sole}
 use Rattle.window.specs.View.{seen}
-use Rattle.window.specs.Verdict.{numberOf, placeOf, ifClear}
-use Rattle.window.specs.declared.Verdict.{Verdict}
-use Rattle.window.specs.declared.Verdict.the-variants as verdict
-use Rattle.window.proofs.Verdicts.{Tabled, Refuses, refuses}
+use Rattle.verdict.specs.Verdict.{numberOf, placeOf, ifClear}
+use Rattle.verdict.specs.declared.Verdict.{Verdict}
+use Rattle.verdict.specs.declared.Verdict.the-variants as verdict
+use Rattle.verdict.proofs.Verdicts.{Tabled, Refuses, refuses}
 use Rattle.window.proofs.Views.{Agree, same-view}
 use Rattle.pattern.specs.Lines.{Lines, columns, rows, lineTotal}
 use Rattle.pattern.specs.Figures.{noFigures, figuresOf}

@@ -17,10 +17,10 @@ use Rattle.laws.proofs.Firsts.{some-none, nowhere-from}
 use Rattle.laws.proofs.Sums.{sum-ext}
 use Rattle.laws.proofs.Tables.{length-tabulate, getD-tabulate}
 use Rattle.window.specs.View.{badCode, surveyed, seenAt, seen, above}
-use Rattle.window.specs.Verdict.{_⨟_, refuseIf, refuseFirst, numberOf, placeOf, ifClear}
+use Rattle.verdict.specs.Verdict.{_⨟_, refuseIf, refuseFirst, numberOf, placeOf, ifClear}
 use Rattle.window.specs.Judge.{shapeOf, otherThan}
-use Rattle.window.specs.declared.Verdict.{Verdict}
-use Rattle.window.specs.declared.Verdict.the-variants.{Clear, Refused}
+use Rattle.verdict.specs.declared.Verdict.{Verdict}
+use Rattle.verdict.specs.declared.Verdict.the-variants.{Clear, Refused}
 use Rattle.window.proofs.Sides.{sides, no-sites}
 use Rattle.window.proofs.Views.{seen-is}
 use Rattle.pattern.specs.Lines.{columns, rows, lineTotal}

@@ -7,10 +7,10 @@ use lib.ListN.{length, getD}
 use Rattle.laws.specs.First.{someTo}
 use Rattle.window.specs.Shape.{sitesOf, badCount}
 use Rattle.window.specs.View.{surveyed, seen, above}
-use Rattle.window.specs.Verdict.{_⨟_, refuseIf, numberOf, placeOf, ifClear}
-use Rattle.window.specs.Judge.{shapeOf, otherThan, codesOf}
-use Rattle.window.specs.declared.Verdict.{Verdict}
-use Rattle.window.specs.declared.Verdict.the-variants as verdict
+use Rattle.verdict.specs.Verdict.{_⨟_, refuseIf}
+use Rattle.verdict.specs.Answer.{answerOf, Paper, acceptedPaper, refusedPaper, paperFor}
+use Rattle.window.specs.Judge.{lengthOf, maskVerdict}
+use Rattle.verdict.specs.declared.Verdict.{Verdict}
 use Rattle.pattern.specs.Lines.{Lines, lineTotal}
 use Rattle.pattern.specs.Figures.{figuresOf, noFigures}
 use Rattle.pattern.specs.declared.Figures.{Figures}
@@ -24,11 +24,7 @@ unsurveyed mask i = not (surveyed (getD mask i 0))
 -- the refusals in their order
 unfoldable pub patternVerdict : (ℕ → ℕ → Lines) → ℕ → ℕ → ℕ → ℕ → List ℕ → List ℕ → Verdict
 patternVerdict lines w h full k mask sums =
-    shapeOf w h full
-    ⨟ refuseIf 3 0 (badCount k)
-    ⨟ refuseIf 4 0 (otherThan (sitesOf w h) (length mask))
-    ⨟ refuseIf 4 0 (otherThan (sitesOf w h) (length sums))
-    ⨟ codesOf (sitesOf w h) mask
+    maskVerdict w h full (refuseIf 3 0 (badCount k)) mask (lengthOf w h (length sums))
     ⨟ refuseIf 8 0 (someTo (sitesOf w h) (unsurveyed mask))
     ⨟ refuseIf 9 0 (ltb (lines w h .count) 12)
     ⨟ refuseIf 11 0 (someTo (sitesOf w h) (above (k * full) (seen mask sums)))
@@ -37,29 +33,17 @@ patternVerdict lines w h full k mask sums =
 abbrev pub patternFigures : Lines → ℕ → ℕ → (ℕ → ℕ) → Figures
 patternFigures l full k view = figuresOf (l .count) (l .long * k * full) (lineTotal l view)
 
-abbrev pub answered : Verdict → Figures → Pattern
-answered verdict.Clear figures = Measured figures
-answered (verdict.Refused r) figures = Refused r
-
+-- the answer: the figures, or the refusal
 unfoldable pub patternAnswer : (ℕ → ℕ → Lines) → ℕ → ℕ → ℕ → ℕ → List ℕ → List ℕ → Pattern
 patternAnswer lines w h full k mask sums =
-    answered (patternVerdict lines w h full k mask sums) (patternFigures (lines w h) full k (seen mask sums))
+    answerOf (patternVerdict lines w h full k mask sums) (Measured (patternFigures (lines w h) full k (seen mask sums))) Refused
 
--- the paper's numbers
-pub record Paper : Type 0 where
-  pub number : ℕ
-  pub place : ℕ
-  pub figures : Figures
+-- the paper's numbers of an answer
+abbrev pub paperOf : Pattern → Paper Figures
+paperOf (Measured figures) = acceptedPaper figures
+paperOf (Refused r) = refusedPaper r noFigures
 
--- of an answer: 0, 0 and the figures, or a refusal's number and place and zeros
-abbrev pub paperOf : Pattern → Paper
-paperOf (Measured figures) = record { number = 0; place = 0; figures = figures }
-paperOf (Refused r) = record { number = r .number; place = r .place; figures = noFigures }
-
--- and for all inputs
-unfoldable pub patternPaper : (ℕ → ℕ → Lines) → ℕ → ℕ → ℕ → ℕ → List ℕ → List ℕ → Paper
-patternPaper lines w h full k mask sums = record {
-  number = numberOf (patternVerdict lines w h full k mask sums);
-  place = placeOf (patternVerdict lines w h full k mask sums);
-  figures = ifClear (patternVerdict lines w h full k mask sums) (patternFigures (lines w h) full k (seen mask sums)) noFigures;
-}
+-- the paper's numbers for all inputs
+unfoldable pub patternPaper : (ℕ → ℕ → Lines) → ℕ → ℕ → ℕ → ℕ → List ℕ → List ℕ → Paper Figures
+patternPaper lines w h full k mask sums =
+    paperFor (patternVerdict lines w h full k mask sums) (patternFigures (lines w h) full k (seen mask sums)) noFigures

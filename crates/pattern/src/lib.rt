@@ -11,8 +11,8 @@ ghost use Rattle.pattern.specs.Lines.{columns, rows};
 ghost use Rattle.pattern.specs.Figures.{levelOf, standsOut, deviation, maxOf, figuresOf};
 ghost use Rattle.pattern.specs.Pattern.{patternVerdict, patternFigures, patternAnswer, paperOf, patternPaper};
 ghost use Rattle.pattern.specs.Walk.{lined, lineOf, held, withRow, Possible, Accepted};
-use window::Refusal;
-use window::Verdict;
+use verdict::Refusal;
+use verdict::Verdict;
 
 // Level squared and Max, each by the two numbers of its fraction, unreduced.
 pub struct Figures {
@@ -76,23 +76,14 @@ fn judge(
 ) -> Verdict
     ensures { λ r. ⌜ r ≡ patternVerdict (lined vertical) width height «full_scale» frames (now (mask .entry)) (now (sums .entry)) ⌝ }
 {
-    let n = window::sites(width, height);
-    let shape = window::shape(width, height, full_scale);
-    let count = window::refuse_if(3, 0, window::bad_count(frames));
-    let masked = window::refuse_if(4, 0, mask.len() != n);
-    let summed = window::refuse_if(4, 0, sums.len() != n);
-    let codes = window::codes(width, height, mask);
-    let unsurveyed = window::refuse_if(8, 0, window::some_code_above(0, mask));
-    let small = window::refuse_if(9, 0, line_of(vertical, height, width) < 12);
-    let impossible = window::refuse_if(11, 0, some_above(most(full_scale, frames), sums));
-    let sites = window::then(
-        codes,
-        window::then(unsurveyed, window::then(small, impossible)),
-    );
-    window::then(
-        shape,
-        window::then(count, window::then(masked, window::then(summed, sites))),
-    )
+    let count = verdict::refuse_if(3, 0, window::bad_count(frames));
+    let summed = window::length(width, height, sums.len());
+    let lent = window::judge_mask(width, height, full_scale, count, mask, summed);
+    let unsurveyed = verdict::refuse_if(8, 0, window::some_code_above(0, mask));
+    let small = verdict::refuse_if(9, 0, line_of(vertical, height, width) < 12);
+    let impossible = verdict::refuse_if(11, 0, some_above(most(full_scale, frames), sums));
+    let stacked = verdict::then(unsurveyed, verdict::then(small, impossible));
+    verdict::then(lent, stacked)
 }
 
 // Adds row y to the totals of the lines that its sites are on.

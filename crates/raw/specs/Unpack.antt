@@ -4,11 +4,10 @@ use mathlib.Core.List.{List}
 use lib.ListN.{length}
 use Rattle.laws.specs.Table.{tabulate}
 use Rattle.window.specs.Shape.{badSides, sitesOf}
-use Rattle.window.specs.Verdict.{refusal, _⨟_, refuseIf, numberOf, placeOf, ifClear}
-use Rattle.window.specs.Judge.{otherThan}
-use Rattle.window.specs.declared.Refusal.{Refusal}
-use Rattle.window.specs.declared.Verdict.{Verdict}
-use Rattle.window.specs.declared.Verdict.the-variants as verdict
+use Rattle.verdict.specs.Verdict.{_⨟_, refuseIf, ifClear}
+use Rattle.verdict.specs.Answer.{answerOf, Paper, acceptedPaper, refusedPaper, paperFor, NoFigures, noFigures}
+use Rattle.window.specs.Judge.{otherThan, lengthOf}
+use Rattle.verdict.specs.declared.Verdict.{Verdict}
 use Rattle.raw.specs.Packed.{sample10, length10}
 use Rattle.raw.specs.declared.Unpacked.{Unpacked}
 use Rattle.raw.specs.declared.Unpacked.the-variants.{Done, Refused}
@@ -18,23 +17,20 @@ unfoldable pub unpackVerdict : ℕ → ℕ → ℕ → ℕ → Verdict
 unpackVerdict w h bytes out =
     refuseIf 1 0 (badSides w h)
     ⨟ refuseIf 4 0 (otherThan (length10 (sitesOf w h)) bytes)
-    ⨟ refuseIf 4 0 (otherThan (sitesOf w h) out)
+    ⨟ lengthOf w h out
 
-abbrev pub answered : Verdict → Unpacked
-answered verdict.Clear = Done
-answered (verdict.Refused r) = Refused r
-
+-- the answer: done, or the refusal
 unfoldable pub unpackAnswer : ℕ → ℕ → ℕ → ℕ → Unpacked
-unpackAnswer w h bytes out = answered (unpackVerdict w h bytes out)
+unpackAnswer w h bytes out = answerOf (unpackVerdict w h bytes out) Done Refused
 
--- the paper's numbers of an answer: a refusal's number and place, 0 and 0 where it is accepted
-abbrev pub paperOf : Unpacked → Refusal
-paperOf Done = refusal 0 0
-paperOf (Refused r) = r
+-- the paper's numbers of an answer
+abbrev pub paperOf : Unpacked → Paper NoFigures
+paperOf Done = acceptedPaper noFigures
+paperOf (Refused r) = refusedPaper r noFigures
 
 -- the paper's numbers for all inputs
-unfoldable pub unpackPaper : ℕ → ℕ → ℕ → ℕ → Refusal
-unpackPaper w h bytes out = refusal (numberOf (unpackVerdict w h bytes out)) (placeOf (unpackVerdict w h bytes out))
+unfoldable pub unpackPaper : ℕ → ℕ → ℕ → ℕ → Paper NoFigures
+unpackPaper w h bytes out = paperFor (unpackVerdict w h bytes out) noFigures noFigures
 
 -- the buffer `out` afterwards: every sample, or all as it was
 unfoldable pub unpackBuffer : ℕ → ℕ → List ℕ → List ℕ → List ℕ

@@ -5,8 +5,8 @@ ghost use lib.ListN.{length};
 ghost use Rattle.laws.specs.Table.{tabulate};
 ghost use Rattle.raw.specs.Packed.{joined, sample10};
 ghost use Rattle.raw.specs.Unpack.{unpackVerdict, unpackAnswer, paperOf, unpackPaper, unpackBuffer};
-use window::Refusal;
-use window::Verdict;
+use verdict::Refusal;
+use verdict::Verdict;
 
 pub enum Unpacked {
     Done,
@@ -18,10 +18,10 @@ fn judge(width: usize, height: usize, bytes: usize, out: usize) -> Verdict
     ensures { λ r. ⌜ r ≡ unpackVerdict width height bytes out ⌝ }
 {
     let n = window::sites(width, height);
-    let sides = window::refuse_if(1, 0, window::bad_sides(width, height));
-    let packed = window::refuse_if(4, 0, bytes != n * 5 / 4);
-    let unpacked = window::refuse_if(4, 0, out != n);
-    window::then(sides, window::then(packed, unpacked))
+    let sides = verdict::refuse_if(1, 0, window::bad_sides(width, height));
+    let packed = verdict::refuse_if(4, 0, bytes != n * 5 / 4);
+    let unpacked = window::length(width, height, out);
+    verdict::then(sides, verdict::then(packed, unpacked))
 }
 
 // A sample of its upper eight bits and the lower two that its group's last byte has for it.

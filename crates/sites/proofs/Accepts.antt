@@ -8,10 +8,10 @@ use lib.ListN.{length, getD}
 use Rattle.laws.specs.First.{firstTo}
 use Rattle.window.specs.Shape.{badSides, badScale, sitesOf}
 use Rattle.window.specs.View.{badCode, above, seen}
-use Rattle.window.specs.Verdict.{refuseFirst}
+use Rattle.verdict.specs.Verdict.{refuseFirst}
 use Rattle.window.specs.Judge.{shapeOf, otherThan}
-use Rattle.window.specs.declared.Verdict.the-variants.{Clear}
-use Rattle.window.proofs.Verdicts.{Tabled, Test, Passed, end, past, test, testFirst, tabled, then-assoc}
+use Rattle.verdict.specs.declared.Verdict.the-variants.{Clear}
+use Rattle.verdict.proofs.Verdicts.{Tabled, Test, Passed, end, past, test, testFirst, tabled, then-assoc}
 use Rattle.window.proofs.Chains.{same-length, right-length, legal-codes, codes-legal, in-range, range-in}
 use Rattle.sites.specs.Find.{findVerdict}
 use Rattle.sites.specs.Repair.{repairVerdict}

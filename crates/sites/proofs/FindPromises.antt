@@ -11,14 +11,14 @@ use Rattle.laws.proofs.Tables.{getD-tabulate}
 use Rattle.laws.proofs.Sole.{Sole, sole}
 use Rattle.window.specs.Shape.{sitesOf}
 use Rattle.window.specs.View.{seenAt, seen}
-use Rattle.window.specs.Verdict.{numberOf, placeOf, ifClear}
-use Rattle.window.specs.declared.Verdict.{Verdict}
-use Rattle.window.specs.declared.Verdict.the-variants as verdict
+use Rattle.verdict.specs.Verdict.{numberOf, placeOf, ifClear}
+use Rattle.verdict.specs.declared.Verdict.{Verdict}
+use Rattle.verdict.specs.declared.Verdict.the-variants as verdict
 use Rattle.window.proofs.Sides.{sides}
-use Rattle.window.proofs.Verdicts.{Tabled, Refuses, refuses}
+use Rattle.verdict.proofs.Verdicts.{Tabled, Refuses, refuses}
 use Rattle.window.proofs.Views.{Agree, same-view, seen-out}
 use Rattle.sites.specs.Paper.{paper}
-use Rattle.sites.specs.Find.{defaultThreshold, usedThreshold, foundAt, markedAt, foundCount, findVerdict, findAnswered, findAnswer, foundPaperOf, findPaper, findMask}
+use Rattle.sites.specs.Find.{defaultThreshold, usedThreshold, foundAt, markedAt, foundCount, findVerdict, findAnswered, findAnswer, findPaperOf, findPaper, findMask}
 use Rattle.sites.specs.declared.Defects.the-variants.{Found}
 use Rattle.sites.proofs.Finds.{farAt, same-found, same-marked}
 use Rattle.sites.proofs.Accepts.{find-tests, find-table, find-accepted, find-clear}
@@ -38,11 +38,11 @@ module _ (w h full t : ℕ) (mask frame out : List ℕ) where
   blind other a = rw (a .long, same-view a) (refl, refl)
 
   -- the paper's numbers are those of the answer
-  pub paper-is : foundPaperOf (findAnswer w h full t mask frame (length out)) ≡ findPaper w h full t mask frame (length out)
+  pub paper-is : findPaperOf (findAnswer w h full t mask frame (length out)) ≡ findPaper w h full t mask frame (length out)
   unfolding findAnswer findPaper
   paper-is = by (findVerdict w h full t mask frame (length out)) _
     where
-      by : (v : Verdict) (n : ℕ) → foundPaperOf (findAnswered v n) ≡ paper (numberOf v) (placeOf v) (ifClear v n 0)
+      by : (v : Verdict) (n : ℕ) → findPaperOf (findAnswered v n) ≡ paper (numberOf v) (placeOf v) (ifClear v n 0)
       by verdict.Clear n = refl
       by (verdict.Refused r) n = refl
 

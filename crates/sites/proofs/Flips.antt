@@ -13,10 +13,10 @@ use Rattle.laws.proofs.Sums.{sum-ext, sum-rows, sum-back, in-ext, in-back}
 use Rattle.laws.proofs.Tables.{length-tabulate, getD-tabulate, tabulate-ext}
 use Rattle.window.specs.Shape.{sitesOf}
 use Rattle.window.specs.View.{seenAt, seen, one}
-use Rattle.window.specs.Plane.{rowParity, columnParity, planeOf, siteAt, boxSum}
+use Rattle.plane.specs.Plane.{rowParity, columnParity, planeOf, siteAt, boxSum}
 use Rattle.window.proofs.Sides.{Sides}
 use Rattle.window.proofs.Views.{seen-is, one-is}
-use Rattle.window.proofs.Planes.{site-row, site-column}
+use Rattle.plane.proofs.Planes.{site-row, site-column}
 use Rattle.sites.specs.Near.{nearSum}
 use Rattle.sites.proofs.Nears.{near-same}
 use Rattle.sites.proofs.Accepts.{Accepted}

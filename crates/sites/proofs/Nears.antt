@@ -7,11 +7,11 @@ use lib.ListN.{length}
 use Rattle.laws.proofs.Sums.{box-scaled, box-above}
 use Rattle.window.specs.Shape.{sitesOf}
 use Rattle.window.specs.View.{seen, one}
-use Rattle.window.specs.Plane.{planeOf, planeRow, planeColumn, siteAt, boxSum, boxSums}
-use Rattle.window.specs.declared.PlaneBox.{PlaneBox}
-use Rattle.window.specs.declared.Sums.{Sums}
+use Rattle.plane.specs.Plane.{planeOf, planeRow, planeColumn, siteAt, boxSum, boxSums}
+use Rattle.plane.specs.declared.PlaneBox.{PlaneBox}
+use Rattle.plane.specs.declared.Sums.{Sums}
 use Rattle.window.proofs.Sides.{Sides}
-use Rattle.window.proofs.Planes.{site-in, plane-row, plane-column, plane-of, box-same, sums-accepted}
+use Rattle.plane.proofs.Planes.{site-in, plane-row, plane-column, plane-of, box-same, sums-accepted}
 use Rattle.sites.specs.Near.{around, nearSum}
 
 module _ (reach w h i : ℕ) where

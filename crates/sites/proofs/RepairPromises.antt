@@ -14,15 +14,15 @@ use Rattle.laws.proofs.Tables.{length-tabulate, getD-tabulate, tabulated}
 use Rattle.laws.proofs.Sole.{Sole, sole}
 use Rattle.window.specs.Shape.{sitesOf}
 use Rattle.window.specs.View.{seenAt, seen, one}
-use Rattle.window.specs.Verdict.{numberOf, placeOf, ifClear}
-use Rattle.window.specs.declared.Verdict.{Verdict}
-use Rattle.window.specs.declared.Verdict.the-variants as verdict
+use Rattle.verdict.specs.Verdict.{numberOf, placeOf, ifClear}
+use Rattle.verdict.specs.declared.Verdict.{Verdict}
+use Rattle.verdict.specs.declared.Verdict.the-variants as verdict
 use Rattle.window.proofs.Sides.{sides}
-use Rattle.window.proofs.Verdicts.{Tabled, Refuses, refuses}
+use Rattle.verdict.proofs.Verdicts.{Tabled, Refuses, refuses}
 use Rattle.window.proofs.Views.{Agree, same-view, seen-is, one-is}
 use Rattle.sites.specs.Near.{nearSum}
 use Rattle.sites.specs.Paper.{paper}
-use Rattle.sites.specs.Repair.{meanOf, filledAt, sampleAfter, codeAfter, filledCount, repairVerdict, repairAnswered, repairAnswer, filledPaperOf, repairPaper, repairFrame, repairMask}
+use Rattle.sites.specs.Repair.{meanOf, filledAt, sampleAfter, codeAfter, filledCount, repairVerdict, repairAnswered, repairAnswer, repairPaperOf, repairPaper, repairFrame, repairMask}
 use Rattle.sites.specs.declared.Repaired.the-variants.{Filled}
 use Rattle.sites.proofs.Nears.{Near, near-same, near-most, near-least}
 use Rattle.sites.proofs.Accepts.{Accepted, repair-tests, repair-table, repair-accepted, repair-clear}
@@ -45,11 +45,11 @@ module _ (w h full : ℕ) (mask frame outFrame outMask : List ℕ) where
   blind other a = rw (a .long, same-view a) (refl, refl)
 
   -- the paper's numbers are those of the answer
-  pub paper-is : filledPaperOf (repairAnswer w h full mask frame (length outFrame) (length outMask)) ≡ repairPaper w h full mask frame (length outFrame) (length outMask)
+  pub paper-is : repairPaperOf (repairAnswer w h full mask frame (length outFrame) (length outMask)) ≡ repairPaper w h full mask frame (length outFrame) (length outMask)
   unfolding repairAnswer repairPaper
   paper-is = by (repairVerdict w h full mask frame (length outFrame) (length outMask)) _
     where
-      by : (v : Verdict) (n : ℕ) → filledPaperOf (repairAnswered v n) ≡ paper (numberOf v) (placeOf v) (ifClear v n 0)
+      by : (v : Verdict) (n : ℕ) → repairPaperOf (repairAnswered v n) ≡ paper (numberOf v) (placeOf v) (ifClear v n 0)
       by verdict.Clear n = refl
       by (verdict.Refused r) n = refl
 

@@ -11,11 +11,11 @@ use borrow.Author.Tests.{eqb-true, ltb-true, eq-eqb, ne-eqb, lt-ltb}
 use Rattle.laws.specs.Table.{tabulate}
 use Rattle.window.specs.View.{surveyed, seenAt, seen, one}
 use Rattle.window.specs.Shape.{sitesOf}
-use Rattle.window.specs.Verdict.{_⨟_, refuseIf}
+use Rattle.verdict.specs.Verdict.{_⨟_, refuseIf}
 use Rattle.window.specs.Judge.{shapeOf, otherThan, codesOf, samplesOf, walked}
-use Rattle.window.specs.declared.Refusal.{Refusal}
-use Rattle.window.specs.declared.Verdict.{Verdict}
-use Rattle.window.specs.declared.Verdict.the-variants as verdict
+use Rattle.verdict.specs.declared.Refusal.{Refusal}
+use Rattle.verdict.specs.declared.Verdict.{Verdict}
+use Rattle.verdict.specs.declared.Verdict.the-variants as verdict
 use Rattle.window.proofs.Views.{seen-most, seen-counted}
 use Rattle.window.proofs.Chains.{seen-whole}
 use Rattle.sites.specs.Near.{nearSum}

@@ -9,12 +9,11 @@ use Rattle.laws.specs.Sum.{sumTo}
 use Rattle.laws.specs.Table.{tabulate}
 use Rattle.window.specs.Shape.{sitesOf}
 use Rattle.window.specs.View.{defect, seenAt, seen, one}
-use Rattle.window.specs.Verdict.{_⨟_, refuseIf, numberOf, placeOf, ifClear}
-use Rattle.window.specs.Judge.{shapeOf, otherThan, codesOf, samplesOf}
-use Rattle.window.specs.declared.Verdict.{Verdict}
-use Rattle.window.specs.declared.Verdict.the-variants as verdict
+use Rattle.verdict.specs.Verdict.{refuseIf, ifClear}
+use Rattle.verdict.specs.Answer.{answerOf, Paper, acceptedPaper, refusedPaper, paperFor}
+use Rattle.window.specs.Judge.{lengthOf, frameVerdict}
+use Rattle.verdict.specs.declared.Verdict.{Verdict}
 use Rattle.sites.specs.Near.{nearSum}
-use Rattle.sites.specs.Paper.{Paper, paper}
 use Rattle.sites.specs.declared.Defects.{Defects}
 use Rattle.sites.specs.declared.Defects.the-variants.{Found, Refused}
 
@@ -49,33 +48,20 @@ foundCount w h t mask view = sumTo (sitesOf w h) (foundAt w h t mask view)
 -- the refusals in their order, of the mask, the frame and the length of the mask that is written
 unfoldable pub findVerdict : ℕ → ℕ → ℕ → ℕ → List ℕ → List ℕ → ℕ → Verdict
 findVerdict w h full t mask frame out =
-    shapeOf w h full
-    ⨟ refuseIf 3 0 (ltb 4095 t)
-    ⨟ refuseIf 4 0 (otherThan (sitesOf w h) (length mask))
-    ⨟ refuseIf 4 0 (otherThan (sitesOf w h) (length frame))
-    ⨟ refuseIf 4 0 (otherThan (sitesOf w h) out)
-    ⨟ codesOf (sitesOf w h) mask
-    ⨟ samplesOf (sitesOf w h) full (seen mask frame)
+    frameVerdict w h full (refuseIf 3 0 (ltb 4095 t)) mask frame (lengthOf w h out)
 
-abbrev pub findAnswered : Verdict → ℕ → Defects
-findAnswered verdict.Clear count = Found count
-findAnswered (verdict.Refused r) count = Refused r
-
+-- the answer: the count, or the refusal
 unfoldable pub findAnswer : ℕ → ℕ → ℕ → ℕ → List ℕ → List ℕ → ℕ → Defects
-findAnswer w h full t mask frame out = findAnswered (findVerdict w h full t mask frame out) (foundCount w h (usedThreshold t) mask (seen mask frame))
+findAnswer w h full t mask frame out = answerOf (findVerdict w h full t mask frame out) (Found (foundCount w h (usedThreshold t) mask (seen mask frame))) Refused
 
 -- the paper's numbers of an answer
-abbrev pub foundPaperOf : Defects → Paper
-foundPaperOf (Found count) = paper 0 0 count
-foundPaperOf (Refused r) = paper (r .number) (r .place) 0
+abbrev pub findPaperOf : Defects → Paper ℕ
+findPaperOf (Found count) = acceptedPaper count
+findPaperOf (Refused r) = refusedPaper r 0
 
 -- the paper's numbers for all inputs
-unfoldable pub findPaper : ℕ → ℕ → ℕ → ℕ → List ℕ → List ℕ → ℕ → Paper
-findPaper w h full t mask frame out =
-    paper
-    (numberOf (findVerdict w h full t mask frame out))
-    (placeOf (findVerdict w h full t mask frame out))
-    (ifClear (findVerdict w h full t mask frame out) (foundCount w h (usedThreshold t) mask (seen mask frame)) 0)
+unfoldable pub findPaper : ℕ → ℕ → ℕ → ℕ → List ℕ → List ℕ → ℕ → Paper ℕ
+findPaper w h full t mask frame out = paperFor (findVerdict w h full t mask frame out) (foundCount w h (usedThreshold t) mask (seen mask frame)) 0
 
 -- the output mask afterwards, or as it was
 unfoldable pub findMask : ℕ → ℕ → ℕ → ℕ → List ℕ → List ℕ → List ℕ → List ℕ

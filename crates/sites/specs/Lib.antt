@@ -1,4 +1,3 @@
 pub mod Near
-pub mod Paper
 pub mod Find
 pub mod Repair

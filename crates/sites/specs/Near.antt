@@ -1,7 +1,7 @@
 -- Document 01, "Defective sites", "Repair": the sites of a site's own plane around it.
 use Prim.Native.Nat.{ℕ, _+_, _-_}
-use Rattle.window.specs.Plane.{planeOf, planeRow, planeColumn, boxSum}
-use Rattle.window.specs.declared.PlaneBox.{PlaneBox}
+use Rattle.plane.specs.Plane.{planeOf, planeRow, planeColumn, boxSum}
+use Rattle.plane.specs.declared.PlaneBox.{PlaneBox}
 
 -- at most `reach` rows and `reach` columns from a site of a window w wide
 abbrev pub around : ℕ → ℕ → ℕ → PlaneBox

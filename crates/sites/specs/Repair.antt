@@ -8,12 +8,12 @@ use Rattle.laws.specs.Sum.{sumTo}
 use Rattle.laws.specs.Table.{tabulate}
 use Rattle.window.specs.Shape.{sitesOf}
 use Rattle.window.specs.View.{defect, filled, one, seen}
-use Rattle.window.specs.Verdict.{_⨟_, refuseIf, numberOf, placeOf, ifClear}
-use Rattle.window.specs.Judge.{shapeOf, otherThan, codesOf, samplesOf}
-use Rattle.window.specs.declared.Verdict.{Verdict}
-use Rattle.window.specs.declared.Verdict.the-variants as verdict
+use Rattle.verdict.specs.Verdict.{_⨟_, ifClear}
+use Rattle.verdict.specs.Answer.{answerOf, Paper, acceptedPaper, refusedPaper, paperFor}
+use Rattle.window.specs.Judge.{lengthOf, frameVerdict}
+use Rattle.verdict.specs.declared.Verdict.{Verdict}
+use Rattle.verdict.specs.declared.Verdict.the-variants as verdict
 use Rattle.sites.specs.Near.{nearSum}
-use Rattle.sites.specs.Paper.{Paper, paper}
 use Rattle.sites.specs.declared.Repaired.{Repaired}
 use Rattle.sites.specs.declared.Repaired.the-variants.{Filled, Refused}
 
@@ -46,33 +46,20 @@ filledCount w h mask = sumTo (sitesOf w h) (filledAt w h mask)
 -- the refusals in their order, of the mask, the frame and the lengths of the two buffers that are written
 unfoldable pub repairVerdict : ℕ → ℕ → ℕ → List ℕ → List ℕ → ℕ → ℕ → Verdict
 repairVerdict w h full mask frame outFrame outMask =
-    shapeOf w h full
-    ⨟ refuseIf 4 0 (otherThan (sitesOf w h) (length mask))
-    ⨟ refuseIf 4 0 (otherThan (sitesOf w h) (length frame))
-    ⨟ refuseIf 4 0 (otherThan (sitesOf w h) outFrame)
-    ⨟ refuseIf 4 0 (otherThan (sitesOf w h) outMask)
-    ⨟ codesOf (sitesOf w h) mask
-    ⨟ samplesOf (sitesOf w h) full (seen mask frame)
+    frameVerdict w h full verdict.Clear mask frame (lengthOf w h outFrame ⨟ lengthOf w h outMask)
 
-abbrev pub repairAnswered : Verdict → ℕ → Repaired
-repairAnswered verdict.Clear count = Filled count
-repairAnswered (verdict.Refused r) count = Refused r
-
+-- the answer: the count, or the refusal
 unfoldable pub repairAnswer : ℕ → ℕ → ℕ → List ℕ → List ℕ → ℕ → ℕ → Repaired
-repairAnswer w h full mask frame outFrame outMask = repairAnswered (repairVerdict w h full mask frame outFrame outMask) (filledCount w h mask)
+repairAnswer w h full mask frame outFrame outMask = answerOf (repairVerdict w h full mask frame outFrame outMask) (Filled (filledCount w h mask)) Refused
 
 -- the paper's numbers of an answer
-abbrev pub filledPaperOf : Repaired → Paper
-filledPaperOf (Filled count) = paper 0 0 count
-filledPaperOf (Refused r) = paper (r .number) (r .place) 0
+abbrev pub repairPaperOf : Repaired → Paper ℕ
+repairPaperOf (Filled count) = acceptedPaper count
+repairPaperOf (Refused r) = refusedPaper r 0
 
 -- the paper's numbers for all inputs
-unfoldable pub repairPaper : ℕ → ℕ → ℕ → List ℕ → List ℕ → ℕ → ℕ → Paper
-repairPaper w h full mask frame outFrame outMask =
-    paper
-    (numberOf (repairVerdict w h full mask frame outFrame outMask))
-    (placeOf (repairVerdict w h full mask frame outFrame outMask))
-    (ifClear (repairVerdict w h full mask frame outFrame outMask) (filledCount w h mask) 0)
+unfoldable pub repairPaper : ℕ → ℕ → ℕ → List ℕ → List ℕ → ℕ → ℕ → Paper ℕ
+repairPaper w h full mask frame outFrame outMask = paperFor (repairVerdict w h full mask frame outFrame outMask) (filledCount w h mask) 0
 
 -- the output frame and the output mask afterwards, or as they were
 unfoldable pub repairFrame : ℕ → ℕ → ℕ → List ℕ → List ℕ → List ℕ → ℕ → List ℕ

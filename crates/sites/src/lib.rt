@@ -7,12 +7,12 @@ ghost use Rattle.laws.specs.Table.{tabulate};
 ghost use Rattle.window.specs.Shape.{badSides, sitesOf};
 ghost use Rattle.window.specs.View.{seen, one};
 ghost use Rattle.sites.specs.Near.{around, nearSum};
-ghost use Rattle.sites.specs.Find.{usedThreshold, far, foundAt, marked, markedAt, foundCount, findVerdict, findAnswer, foundPaperOf, findPaper, findMask};
-ghost use Rattle.sites.specs.Repair.{meanOf, filledAt, sampleAfter, codeAfter, filledCount, repairVerdict, repairAnswer, filledPaperOf, repairPaper, repairFrame, repairMask};
-use window::PlaneBox;
-use window::Refusal;
-use window::Sums;
-use window::Verdict;
+ghost use Rattle.sites.specs.Find.{usedThreshold, far, foundAt, marked, markedAt, foundCount, findVerdict, findAnswer, findPaperOf, findPaper, findMask};
+ghost use Rattle.sites.specs.Repair.{meanOf, filledAt, sampleAfter, codeAfter, filledCount, repairVerdict, repairAnswer, repairPaperOf, repairPaper, repairFrame, repairMask};
+use plane::PlaneBox;
+use verdict::Refusal;
+use plane::Sums;
+use verdict::Verdict;
 
 // Document 01: "0 stands for the default, 28".
 const DEFAULT_THRESHOLD: u64 = 28;
@@ -63,7 +63,7 @@ fn near_sums(
     ensures { λ r. ⌜ (r .count ≤ 4096) × (r .total ≤ 65535 * r .count) ⌝ }
 {
     let plane = 2 * (i / width % 2) + i % width % 2;
-    window::box_sums(
+    plane::box_sums(
         width,
         height,
         plane,
@@ -142,24 +142,9 @@ fn judge_find(
 ) -> Verdict
     ensures { λ r. ⌜ r ≡ findVerdict width height «full_scale» threshold (now (mask .entry)) (now (frame .entry)) out ⌝ }
 {
-    let n = window::sites(width, height);
-    let shape = window::shape(width, height, full_scale);
-    let range = window::refuse_if(3, 0, 4095 < threshold);
-    let masked = window::refuse_if(4, 0, mask.len() != n);
-    let framed = window::refuse_if(4, 0, frame.len() != n);
-    let lent = window::refuse_if(4, 0, out != n);
-    let codes = window::codes(width, height, mask);
-    let samples = window::samples(width, height, full_scale, mask, frame);
-    window::then(
-        shape,
-        window::then(
-            range,
-            window::then(
-                masked,
-                window::then(framed, window::then(lent, window::then(codes, samples))),
-            ),
-        ),
-    )
+    let range = verdict::refuse_if(3, 0, 4095 < threshold);
+    let lent = window::length(width, height, out);
+    window::judge_frame(width, height, full_scale, range, mask, frame, lent)
 }
 
 pub fn find_defects(
@@ -172,7 +157,7 @@ pub fn find_defects(
     out_mask: &mut [u8],
 ) -> Defects
     ensures answer { λ r. ⌜ r ≡ findAnswer width height «full_scale» threshold (now (mask .entry)) (now (frame .entry)) (length (now («out_mask» .entry))) ⌝ }
-    ensures paper { λ r. ⌜ foundPaperOf r ≡ findPaper width height «full_scale» threshold (now (mask .entry)) (now (frame .entry)) (length (now («out_mask» .entry))) ⌝ }
+    ensures paper { λ r. ⌜ findPaperOf r ≡ findPaper width height «full_scale» threshold (now (mask .entry)) (now (frame .entry)) (length (now («out_mask» .entry))) ⌝ }
     ensures buffer { λ r. ⌜ now («out_mask» .exit) ≡ findMask width height «full_scale» threshold (now (mask .entry)) (now (frame .entry)) (now («out_mask» .entry)) ⌝ }
 {
     match judge_find(
@@ -278,27 +263,10 @@ fn judge_repair(
 ) -> Verdict
     ensures { λ r. ⌜ r ≡ repairVerdict width height «full_scale» (now (mask .entry)) (now (frame .entry)) «out_frame» «out_mask» ⌝ }
 {
-    let n = window::sites(width, height);
-    let shape = window::shape(width, height, full_scale);
-    let masked = window::refuse_if(4, 0, mask.len() != n);
-    let framed = window::refuse_if(4, 0, frame.len() != n);
-    let lent_frame = window::refuse_if(4, 0, out_frame != n);
-    let lent_mask = window::refuse_if(4, 0, out_mask != n);
-    let codes = window::codes(width, height, mask);
-    let samples = window::samples(width, height, full_scale, mask, frame);
-    window::then(
-        shape,
-        window::then(
-            masked,
-            window::then(
-                framed,
-                window::then(
-                    lent_frame,
-                    window::then(lent_mask, window::then(codes, samples)),
-                ),
-            ),
-        ),
-    )
+    let lent_frame = window::length(width, height, out_frame);
+    let lent_mask = window::length(width, height, out_mask);
+    let lent = verdict::then(lent_frame, lent_mask);
+    window::judge_frame(width, height, full_scale, Verdict::Clear, mask, frame, lent)
 }
 
 pub fn repair(
@@ -311,7 +279,7 @@ pub fn repair(
     out_mask: &mut [u8],
 ) -> Repaired
     ensures answer { λ r. ⌜ r ≡ repairAnswer width height «full_scale» (now (mask .entry)) (now (frame .entry)) (length (now («out_frame» .entry))) (length (now («out_mask» .entry))) ⌝ }
-    ensures paper { λ r. ⌜ filledPaperOf r ≡ repairPaper width height «full_scale» (now (mask .entry)) (now (frame .entry)) (length (now («out_frame» .entry))) (length (now («out_mask» .entry))) ⌝ }
+    ensures paper { λ r. ⌜ repairPaperOf r ≡ repairPaper width height «full_scale» (now (mask .entry)) (now (frame .entry)) (length (now («out_frame» .entry))) (length (now («out_mask» .entry))) ⌝ }
     ensures frame { λ r. ⌜ now («out_frame» .exit) ≡ repairFrame width height «full_scale» (now (mask .entry)) (now (frame .entry)) (now («out_frame» .entry)) (length (now («out_mask» .entry))) ⌝ }
     ensures mask { λ r. ⌜ now («out_mask» .exit) ≡ repairMask width height «full_scale» (now (mask .entry)) (now (frame .entry)) (length (now («out_frame» .entry))) (now («out_mask» .entry)) ⌝ }
 {

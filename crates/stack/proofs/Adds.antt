@@ -10,12 +10,12 @@ use borrow.Author.Tests.{ltb-false, eqb-false}
 use Rattle.laws.proofs.Cases.{times-le}
 use Rattle.window.specs.Shape.{badSides, badScale, sitesOf}
 use Rattle.window.specs.View.{badCode, above, seen}
-use Rattle.window.specs.Verdict.{_⨟_, refuseIf, refuseFirst}
+use Rattle.verdict.specs.Verdict.{_⨟_, refuseIf, refuseFirst}
 use Rattle.window.specs.Judge.{shapeOf, otherThan, codesOf, samplesOf, walked}
-use Rattle.window.specs.declared.Refusal.{Refusal}
-use Rattle.window.specs.declared.Verdict.the-variants as verdict
+use Rattle.verdict.specs.declared.Refusal.{Refusal}
+use Rattle.verdict.specs.declared.Verdict.the-variants as verdict
 use Rattle.window.proofs.Sides.{scale}
-use Rattle.window.proofs.Verdicts.{Test, Tabled, test, testFirst, tabled, passed-head, passed-tail, then-same, unless}
+use Rattle.verdict.proofs.Verdicts.{Test, Tabled, test, testFirst, tabled, passed-head, passed-tail, then-same, unless}
 use Rattle.window.proofs.Views.{seen-is, seen-out}
 use Rattle.window.proofs.Chains.{shape-then, shape-clear, same-length, in-range, measured, codes-whole, samples-whole}
 use Rattle.stack.specs.Sums.{impossibleIn, squared, added}

@@ -17,11 +17,11 @@ use Rattle.exact.specs.Quotient.{quotient, floatZero}
 use Rattle.exact.specs.Bound.{CloseTo}
 use Rattle.exact.proofs.Quotients.{quotient-near, quotient-zero}
 use Rattle.window.specs.View.{surveyed, seen, one}
-use Rattle.window.specs.Verdict.{refuseIf, numberOf, placeOf, ifClear}
-use Rattle.window.specs.declared.Refusal.{Refusal}
-use Rattle.window.specs.declared.Verdict.{Verdict}
-use Rattle.window.specs.declared.Verdict.the-variants as verdict
-use Rattle.window.proofs.Verdicts.{Tabled, Refuses, refuses, then-same, then-clear, then-end}
+use Rattle.verdict.specs.Verdict.{refuseIf, numberOf, placeOf, ifClear}
+use Rattle.verdict.specs.declared.Refusal.{Refusal}
+use Rattle.verdict.specs.declared.Verdict.{Verdict}
+use Rattle.verdict.specs.declared.Verdict.the-variants as verdict
+use Rattle.verdict.proofs.Verdicts.{Tabled, Refuses, refuses, then-same, then-clear, then-end}
 use Rattle.window.proofs.Views.{Agree, same-view, seen-is, seen-in, seen-out}
 use Rattle.stack.specs.Sums.{impossibleIn, squared, added, spread}
 use Rattle.stack.specs.Add.{addVerdict, addAnswered, addAnswer, addPaperOf, addPaper, addSums, addSquares}

@@ -19,11 +19,11 @@ use Rattle.laws.proofs.Firsts.{nowhere-first}
 use Rattle.laws.proofs.Sums.{sum-ext, sum-zero}
 use Rattle.laws.proofs.Tables.{length-tabulate, getD-tabulate, tabulate-ext}
 use Rattle.window.specs.View.{badCode, above, surveyed, seen, one}
-use Rattle.window.specs.Verdict.{_⨟_}
+use Rattle.verdict.specs.Verdict.{_⨟_}
 use Rattle.window.specs.Judge.{otherThan}
-use Rattle.window.specs.declared.Verdict.the-variants as verdict
+use Rattle.verdict.specs.declared.Verdict.the-variants as verdict
 use Rattle.window.proofs.Sides.{scale, sites-few}
-use Rattle.window.proofs.Verdicts.{end, past, passed-head, passed-tail, then-clear}
+use Rattle.verdict.proofs.Verdicts.{end, past, passed-head, passed-tail, then-clear}
 use Rattle.window.proofs.Views.{seen-is, seen-in, seen-out}
 use Rattle.window.proofs.Chains.{legal-codes}
 use Rattle.stack.specs.Sums.{impossibleAt, impossibleIn, squared, added, spread}

@@ -18,12 +18,12 @@ use Rattle.laws.proofs.Sums.{sum-le}
 use Rattle.exact.specs.Quotient.{quotient, quotientOrZero}
 use Rattle.exact.proofs.Quotients.{Ranged, ranged-quotient}
 use Rattle.window.specs.View.{badCode, seen, one}
-use Rattle.window.specs.Verdict.{_⨟_, refuseIf, refuseFirst}
+use Rattle.verdict.specs.Verdict.{_⨟_, refuseIf, refuseFirst}
 use Rattle.window.specs.Judge.{shapeOf, otherThan, codesOf, walked}
-use Rattle.window.specs.declared.Refusal.{Refusal}
-use Rattle.window.specs.declared.Verdict.{Verdict}
-use Rattle.window.specs.declared.Verdict.the-variants as verdict
-use Rattle.window.proofs.Verdicts.{Test, Tabled, test, testFirst, tabled, tabled-then, passed-head, passed-tail, then-same, unless}
+use Rattle.verdict.specs.declared.Refusal.{Refusal}
+use Rattle.verdict.specs.declared.Verdict.{Verdict}
+use Rattle.verdict.specs.declared.Verdict.the-variants as verdict
+use Rattle.verdict.proofs.Verdicts.{Test, Tabled, test, testFirst, tabled, tabled-then, passed-head, passed-tail, then-same, unless}
 use Rattle.window.proofs.Views.{surveyed-few}
 use Rattle.window.proofs.Chains.{shape-then, shape-clear, same-length, measured, codes-whole}
 use Rattle.stack.specs.Sums.{impossibleIn, spread}

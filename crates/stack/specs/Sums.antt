@@ -7,6 +7,13 @@ use lib.ListN.{length, getD}
 use Rattle.laws.specs.First.{someTo}
 use Rattle.laws.specs.Sum.{sumTo}
 use Rattle.laws.specs.Table.{tabulate}
+use Rattle.verdict.specs.Verdict.{_⨟_}
+use Rattle.verdict.specs.declared.Verdict.{Verdict}
+use Rattle.window.specs.Judge.{lengthOf}
+
+-- 4, of so many sums and sums of squares
+abbrev pub sumsLong : ℕ → ℕ → ℕ → ℕ → Verdict
+sumsLong w h sums squares = lengthOf w h sums ⨟ lengthOf w h squares
 
 -- s > k × full scale, q > k × full scale², or k × q < s²
 unfoldable pub impossible : ℕ → ℕ → ℕ → ℕ → Bool

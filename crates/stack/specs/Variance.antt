@@ -9,11 +9,11 @@ use Rattle.laws.specs.Sum.{sumTo}
 use Rattle.exact.specs.Quotient.{quotient}
 use Rattle.window.specs.Shape.{sitesOf, badCount}
 use Rattle.window.specs.View.{seen, one}
-use Rattle.window.specs.Verdict.{_⨟_, refuseIf, numberOf, placeOf, ifClear}
-use Rattle.window.specs.Judge.{shapeOf, otherThan, codesOf}
-use Rattle.window.specs.declared.Verdict.{Verdict}
-use Rattle.window.specs.declared.Verdict.the-variants as verdict
-use Rattle.stack.specs.Sums.{impossibleIn, spread}
+use Rattle.verdict.specs.Verdict.{_⨟_, refuseIf}
+use Rattle.verdict.specs.Answer.{answerOf, Paper, acceptedPaper, refusedPaper, paperFor}
+use Rattle.window.specs.Judge.{maskVerdict}
+use Rattle.verdict.specs.declared.Verdict.{Verdict}
+use Rattle.stack.specs.Sums.{sumsLong, impossibleIn, spread}
 use Rattle.stack.specs.declared.Variance.{Variance}
 use Rattle.stack.specs.declared.Variance.the-variants.{Figures, Refused}
 
@@ -24,12 +24,7 @@ tooFew sites k = eqb sites 0 || ltb k 2
 -- refusals 1 to 5, 7 and 11, in their order
 unfoldable pub sumsVerdict : ℕ → ℕ → ℕ → ℕ → List ℕ → List ℕ → List ℕ → Verdict
 sumsVerdict w h full k mask sums squares =
-    shapeOf w h full
-    ⨟ refuseIf 3 0 (badCount k)
-    ⨟ refuseIf 4 0 (otherThan (sitesOf w h) (length mask))
-    ⨟ refuseIf 4 0 (otherThan (sitesOf w h) (length sums))
-    ⨟ refuseIf 4 0 (otherThan (sitesOf w h) (length squares))
-    ⨟ codesOf (sitesOf w h) mask
+    maskVerdict w h full (refuseIf 3 0 (badCount k)) mask (sumsLong w h (length sums) (length squares))
     ⨟ refuseIf 7 0 (tooFew (sumTo (sitesOf w h) (one mask)) k)
     ⨟ refuseIf 11 0 (impossibleIn (sitesOf w h) full k (seen mask sums) (seen mask squares))
 
@@ -39,41 +34,34 @@ varianceVerdict w h full k mask sums squares =
     sumsVerdict w h full k mask sums squares
     ⨟ refuseIf 14 0 (leb (2 ^ 53) (spread (sitesOf w h) k (seen mask sums) (seen mask squares)))
 
-abbrev pub varianceAnswered : Verdict → ℕ → ℕ → Variance
-varianceAnswered verdict.Clear numerator denominator = Figures numerator denominator (quotient numerator denominator)
-varianceAnswered (verdict.Refused r) numerator denominator = Refused r
-
 -- the sum of k × q − s² over n surveyed sites, over n × k², and their quotient, rounded once
-unfoldable pub varianceAnswer : ℕ → ℕ → ℕ → ℕ → List ℕ → List ℕ → List ℕ → Variance
-varianceAnswer w h full k mask sums squares =
-    varianceAnswered (varianceVerdict w h full k mask sums squares)
-    (spread (sitesOf w h) k (seen mask sums) (seen mask squares))
-    (sumTo (sitesOf w h) (one mask) * (k * k))
-
--- the paper's numbers of an answer
-pub record VariancePaper : Type 0 where
-  pub number : ℕ
-  pub place : ℕ
+pub record VarianceFigures : Type 0 where
   pub numerator : ℕ
   pub denominator : ℕ
   pub variance : Float
 
-abbrev pub variancePaperOf : Variance → VariancePaper
-variancePaperOf (Figures numerator denominator variance) =
-    record { number = 0; place = 0; numerator = numerator; denominator = denominator; variance = variance }
-variancePaperOf (Refused r) =
-    record { number = r .number; place = r .place; numerator = 0; denominator = 0; variance = ofBits binary64 0 }
+abbrev pub noVariance : VarianceFigures
+noVariance = record { numerator = 0; denominator = 0; variance = ofBits binary64 0 }
 
--- the paper's numbers for all inputs
-unfoldable pub variancePaper : ℕ → ℕ → ℕ → ℕ → List ℕ → List ℕ → List ℕ → VariancePaper
-variancePaper w h full k mask sums squares =
-    let v = varianceVerdict w h full k mask sums squares in
+abbrev pub varianceFigures : ℕ → ℕ → ℕ → List ℕ → List ℕ → List ℕ → VarianceFigures
+varianceFigures w h k mask sums squares =
     let numerator = spread (sitesOf w h) k (seen mask sums) (seen mask squares) in
     let denominator = sumTo (sitesOf w h) (one mask) * (k * k) in
-    record {
-      number = numberOf v;
-      place = placeOf v;
-      numerator = ifClear v numerator 0;
-      denominator = ifClear v denominator 0;
-      variance = ifClear v (quotient numerator denominator) (ofBits binary64 0);
-    }
+    record { numerator = numerator; denominator = denominator; variance = quotient numerator denominator }
+
+-- the answer: the figures, or the refusal
+unfoldable pub varianceAnswer : ℕ → ℕ → ℕ → ℕ → List ℕ → List ℕ → List ℕ → Variance
+varianceAnswer w h full k mask sums squares =
+    let f = varianceFigures w h k mask sums squares in
+    answerOf (varianceVerdict w h full k mask sums squares) (Figures (f .numerator) (f .denominator) (f .variance)) Refused
+
+-- the paper's numbers of an answer
+abbrev pub variancePaperOf : Variance → Paper VarianceFigures
+variancePaperOf (Figures numerator denominator variance) =
+    acceptedPaper (record { numerator = numerator; denominator = denominator; variance = variance })
+variancePaperOf (Refused r) = refusedPaper r noVariance
+
+-- the paper's numbers for all inputs
+unfoldable pub variancePaper : ℕ → ℕ → ℕ → ℕ → List ℕ → List ℕ → List ℕ → Paper VarianceFigures
+variancePaper w h full k mask sums squares =
+    paperFor (varianceVerdict w h full k mask sums squares) (varianceFigures w h k mask sums squares) noVariance

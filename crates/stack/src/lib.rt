@@ -6,13 +6,13 @@ ghost use lib.ListN.{length, getD};
 ghost use Rattle.laws.specs.Sum.{sumTo};
 ghost use Rattle.window.specs.Judge.{walked};
 ghost use Rattle.window.specs.View.{seenAt, seen, one};
-ghost use Rattle.window.specs.Verdict.{refuseIf};
-ghost use Rattle.stack.specs.Sums.{impossible, impossibleIn, squared, added, spread};
+ghost use Rattle.verdict.specs.Verdict.{refuseIf};
+ghost use Rattle.stack.specs.Sums.{sumsLong, impossible, impossibleIn, squared, added, spread};
 ghost use Rattle.stack.specs.Walk.{readable};
 ghost use Rattle.stack.specs.Variance.{tooFew, sumsVerdict, varianceAnswer, variancePaperOf, variancePaper};
 ghost use Rattle.stack.specs.Add.{addVerdict, addAnswer, addPaperOf, addPaper, addSums, addSquares};
-use window::Refusal;
-use window::Verdict;
+use verdict::Refusal;
+use verdict::Verdict;
 
 // The frames that are in the stack now, or a refusal.
 pub enum Added {
@@ -82,9 +82,19 @@ fn possible(full_scale: u64, frames: u64, mask: &[u8], sums: &[u32], squares: &[
 {
     if readable(full_scale, frames, mask.len(), sums.len(), squares.len()) {
         let found = some_impossible(full_scale, frames, mask, sums, squares);
-        return window::refuse_if(11, 0, found);
+        return verdict::refuse_if(11, 0, found);
     }
     Verdict::Clear
+}
+
+// Refusal 4, of the sums and the sums of squares.
+fn sums_long(width: usize, height: usize, sums: usize, squares: usize) -> Verdict
+    ensures { λ r. ⌜ r ≡ sumsLong width height sums squares ⌝ }
+{
+    verdict::then(
+        window::length(width, height, sums),
+        window::length(width, height, squares),
+    )
 }
 
 // Refusals 1 to 6, 11 and 12 of a frame that is offered.
@@ -100,21 +110,12 @@ fn judge_frame(
 ) -> Verdict
     ensures { λ r. ⌜ r ≡ addVerdict width height «full_scale» frames (now (mask .entry)) (now (frame .entry)) (now (sums .entry)) (now (squares .entry)) ⌝ }
 {
-    let n = window::sites(width, height);
-    let shape = window::shape(width, height, full_scale);
-    let count = window::refuse_if(3, 0, 100 < frames);
-    let mask_long = window::refuse_if(4, 0, mask.len() != n);
-    let frame_long = window::refuse_if(4, 0, frame.len() != n);
-    let sums_long = window::refuse_if(4, 0, sums.len() != n);
-    let squares_long = window::refuse_if(4, 0, squares.len() != n);
-    let codes = window::codes(width, height, mask);
-    let samples = window::samples(width, height, full_scale, mask, frame);
+    let count = verdict::refuse_if(3, 0, 100 < frames);
+    let lengths = sums_long(width, height, sums.len(), squares.len());
+    let lent = window::judge_frame(width, height, full_scale, count, mask, frame, lengths);
     let impossible = possible(full_scale, frames, mask, sums, squares);
-    let full = window::refuse_if(12, 0, frames == 100);
-    let sites = window::then(codes, window::then(samples, window::then(impossible, full)));
-    let stack_long = window::then(sums_long, window::then(squares_long, sites));
-    let lengths = window::then(mask_long, window::then(frame_long, stack_long));
-    window::then(shape, window::then(count, lengths))
+    let full = verdict::refuse_if(12, 0, frames == 100);
+    verdict::then(lent, verdict::then(impossible, full))
 }
 
 // Adds what is seen of a frame, where each sum has room.
@@ -203,21 +204,12 @@ fn judge_stack(
     requires { ⌜ count ≡ sumTo (walked width height (length (now mask))) (one (now mask)) ⌝ }
     ensures { λ r. ⌜ r ≡ sumsVerdict width height «full_scale» frames (now (mask .entry)) (now (sums .entry)) (now (squares .entry)) ⌝ }
 {
-    let n = window::sites(width, height);
-    let shape = window::shape(width, height, full_scale);
-    let bad = window::refuse_if(3, 0, window::bad_count(frames));
-    let mask_long = window::refuse_if(4, 0, mask.len() != n);
-    let sums_long = window::refuse_if(4, 0, sums.len() != n);
-    let squares_long = window::refuse_if(4, 0, squares.len() != n);
-    let codes = window::codes(width, height, mask);
-    let few = window::refuse_if(7, 0, too_few(count, frames));
+    let bad = verdict::refuse_if(3, 0, window::bad_count(frames));
+    let lengths = sums_long(width, height, sums.len(), squares.len());
+    let lent = window::judge_mask(width, height, full_scale, bad, mask, lengths);
+    let few = verdict::refuse_if(7, 0, too_few(count, frames));
     let impossible = possible(full_scale, frames, mask, sums, squares);
-    let sites = window::then(codes, window::then(few, impossible));
-    let stack_long = window::then(sums_long, window::then(squares_long, sites));
-    window::then(
-        shape,
-        window::then(bad, window::then(mask_long, stack_long)),
-    )
+    verdict::then(lent, verdict::then(few, impossible))
 }
 
 // The variance of a stack of `frames` frames.
@@ -248,7 +240,7 @@ pub fn stack_variance(
         return Variance::Refused(refusal);
     }
     let numerator = spread(frames, mask, sums, squares);
-    match window::refuse_if(14, 0, exact::LOSSLESS <= numerator) {
+    match verdict::refuse_if(14, 0, exact::LOSSLESS <= numerator) {
         Verdict::Refused(refusal) => Variance::Refused(refusal),
         Verdict::Clear => {
             let denominator = count * (frames * frames);

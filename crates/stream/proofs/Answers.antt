@@ -7,10 +7,10 @@ use native.Mathlib.Omega.{arith}
 use lib.Ieee.{Float}
 use lib.IntN.{ℤ}
 use Rattle.window.specs.Shape.{sitesOf}
-use Rattle.window.specs.Verdict.{_⨟_}
-use Rattle.window.specs.declared.Refusal.{Refusal}
-use Rattle.window.specs.declared.Verdict.{Verdict}
-use Rattle.window.specs.declared.Verdict.the-variants as verdict
+use Rattle.verdict.specs.Verdict.{_⨟_}
+use Rattle.verdict.specs.declared.Refusal.{Refusal}
+use Rattle.verdict.specs.declared.Verdict.{Verdict}
+use Rattle.verdict.specs.declared.Verdict.the-variants as verdict
 use Rattle.window.proofs.Sides.{sites-few}
 use Rattle.window.proofs.Views.{surveyed-few}
 use Rattle.pair.specs.Pair.{spreadOf, pairVerdict}

@@ -8,10 +8,10 @@ use lib.ListN.{length, take, length-take, length-drop}
 use lib.Seq.{take-all}
 use Rattle.laws.proofs.Tables.{length-tabulate}
 use Rattle.laws.proofs.Sole.{Sole, sole}
-use Rattle.window.specs.Verdict.{refusal, _⨟_, numberOf, placeOf, ifClear}
-use Rattle.window.specs.declared.Verdict.{Verdict}
-use Rattle.window.specs.declared.Verdict.the-variants as verdict
-use Rattle.window.proofs.Verdicts.{Test, Tabled, Refuses, refuses, inTurn, tabled, tabled-then, then-same, then-clear}
+use Rattle.verdict.specs.Verdict.{refusal, _⨟_, numberOf, placeOf, ifClear}
+use Rattle.verdict.specs.declared.Verdict.{Verdict}
+use Rattle.verdict.specs.declared.Verdict.the-variants as verdict
+use Rattle.verdict.proofs.Verdicts.{Test, Tabled, Refuses, refuses, inTurn, tabled, tabled-then, then-same, then-clear}
 use Rattle.window.proofs.Views.{Agree}
 use Rattle.raw.specs.Packed.{sample10}
 use Rattle.raw.specs.Unpack.{unpackBuffer}

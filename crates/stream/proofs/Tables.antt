@@ -10,12 +10,12 @@ use borrow.Author.Tests.{ne-eqb, ltb-false}
 use Rattle.laws.specs.Sum.{sumTo}
 use Rattle.window.specs.Shape.{badSides, badScale, sitesOf}
 use Rattle.window.specs.View.{badCode, above, seen, one}
-use Rattle.window.specs.Verdict.{_⨟_, refuseIf, refuseFirst}
+use Rattle.verdict.specs.Verdict.{_⨟_, refuseIf, refuseFirst}
 use Rattle.window.specs.Judge.{shapeOf, otherThan, codesOf, samplesOf}
-use Rattle.window.specs.declared.Verdict.{Verdict}
-use Rattle.window.specs.declared.Verdict.the-variants.{Clear}
+use Rattle.verdict.specs.declared.Verdict.{Verdict}
+use Rattle.verdict.specs.declared.Verdict.the-variants.{Clear}
 use Rattle.window.proofs.Chains.{right-length}
-use Rattle.window.proofs.Verdicts.{Test, Tabled, test, testFirst, inTurn, tabled, tabled-none, tabled-then, skipped, then-assoc, then-same, then-clear, then-end, unless}
+use Rattle.verdict.proofs.Verdicts.{Test, Tabled, test, testFirst, inTurn, tabled, tabled-none, tabled-then, skipped, then-assoc, then-same, then-clear, then-end, unless}
 use Rattle.pair.specs.Pair.{spreadOf, pairSpread, framesVerdict, pairVerdict}
 use Rattle.pair.proofs.Promises.{spare}
 use Rattle.dark.specs.Dark.{darkVerdict}

@@ -3,10 +3,10 @@ use Prim.Native.Nat.{ℕ, _+_, _*_}
 use mathlib.Core.List.{List, [], _∷_}
 use lib.Dec.{ltb}
 use lib.ListN.{length, getD, take, drop}
-use Rattle.window.specs.Verdict.{_⨟_, refuseIf}
+use Rattle.verdict.specs.Verdict.{_⨟_, refuseIf}
 use Rattle.window.specs.Judge.{otherThan}
-use Rattle.window.specs.declared.Verdict.{Verdict}
-use Rattle.window.specs.declared.Verdict.the-variants.{Clear}
+use Rattle.verdict.specs.declared.Verdict.{Verdict}
+use Rattle.verdict.specs.declared.Verdict.the-variants.{Clear}
 
 -- two bytes, the high one first
 unfoldable pub wordAt : List ℕ → ℕ → ℕ

@@ -2,12 +2,13 @@
 use Prim.Native.Nat.{ℕ, _*_}
 use mathlib.Core.List.{List}
 use lib.IntN.{ℤ, pos}
-use Rattle.window.specs.Verdict.{_⨟_, numberOf, placeOf, ifClear}
-use Rattle.window.specs.declared.Verdict.{Verdict}
-use Rattle.window.specs.declared.Verdict.the-variants as verdict
+use Rattle.verdict.specs.Verdict.{_⨟_}
+use Rattle.verdict.specs.Answer.{answerOf, Paper, acceptedPaper, refusedPaper, paperFor}
+use Rattle.verdict.specs.declared.Verdict.{Verdict}
 use Rattle.pair.specs.Pair.{pairVerdict}
-use Rattle.pair.specs.Answers.{VariancePaper, variancePaper, NoisePaper, noisePaper}
-use Rattle.dark.specs.Dark.{darkVerdict, Paper, darkPaper}
+use Rattle.pair.specs.Answers.{VarianceFigures, varianceFigures, NoiseFigures, noiseFigures}
+use Rattle.dark.specs.Dark.{darkVerdict, darkFigures}
+use Rattle.dark.specs.Dark as dark
 use Rattle.stream.specs.Stream.{widthOf, heightOf, fullOf, blackOf, maskOf, firstOf, secondOf, streamVerdict}
 use Rattle.stream.specs.declared.Answer.{Answer}
 use Rattle.stream.specs.declared.Answer.the-variants.{Figures, Refused}
@@ -20,27 +21,17 @@ jobVerdict s =
     ⨟ darkVerdict (widthOf s) (heightOf s) (fullOf s) (blackOf s) (maskOf s) (firstOf s)
 
 -- ---- the numbers of the library's calls on what stands in the stream
-abbrev pub varianceIn : List ℕ → VariancePaper
-varianceIn s = variancePaper (widthOf s) (heightOf s) (fullOf s) (maskOf s) (firstOf s) (secondOf s)
+abbrev pub varianceIn : List ℕ → VarianceFigures
+varianceIn s = varianceFigures (widthOf s) (heightOf s) (maskOf s) (firstOf s) (secondOf s)
 
-abbrev pub noiseIn : List ℕ → NoisePaper
-noiseIn s = noisePaper (widthOf s) (heightOf s) (fullOf s) (maskOf s) (firstOf s) (secondOf s)
+abbrev pub noiseIn : List ℕ → NoiseFigures
+noiseIn s = noiseFigures (widthOf s) (heightOf s) (maskOf s) (firstOf s) (secondOf s)
 
-abbrev pub darkIn : List ℕ → Paper
-darkIn s = darkPaper (widthOf s) (heightOf s) (fullOf s) (blackOf s) (maskOf s) (firstOf s)
+abbrev pub darkIn : List ℕ → dark.Figures
+darkIn s = darkFigures (widthOf s) (heightOf s) (blackOf s) (maskOf s) (firstOf s)
 
 -- what four lines print: sites n, variance P/Q, noise r/(64 × n), and the dark level's two numbers
-abbrev pub answered : Verdict → VariancePaper → NoisePaper → Paper → Answer
-answered verdict.Clear v x d = Figures (x .n) (v .p) (v .q) (x .r) (64 * x .n) (d .numerator) (d .denominator)
-answered (verdict.Refused r) v x d = Refused r
-
-unfoldable pub jobAnswer : List ℕ → Answer
-jobAnswer s = answered (jobVerdict s) (varianceIn s) (noiseIn s) (darkIn s)
-
--- the paper's numbers of an answer: 0 and 0 and what is printed, or a refusal's number and place, and zeros
-pub record JobPaper : Type 0 where
-  pub number : ℕ
-  pub place : ℕ
+pub record JobFigures : Type 0 where
   pub sites : ℕ
   pub p : ℕ
   pub q : ℕ
@@ -49,24 +40,32 @@ pub record JobPaper : Type 0 where
   pub dark : ℤ
   pub darkOver : ℕ
 
-abbrev pub paperOf : Answer → JobPaper
+abbrev pub noFigures : JobFigures
+noFigures = record { sites = 0; p = 0; q = 0; r = 0; rOver = 0; dark = pos 0; darkOver = 0 }
+
+abbrev pub jobFigures : List ℕ → JobFigures
+jobFigures s = record {
+  sites = noiseIn s .n;
+  p = varianceIn s .p;
+  q = varianceIn s .q;
+  r = noiseIn s .r;
+  rOver = 64 * noiseIn s .n;
+  dark = darkIn s .numerator;
+  darkOver = darkIn s .denominator;
+}
+
+-- the answer: the figures, or the refusal
+unfoldable pub jobAnswer : List ℕ → Answer
+jobAnswer s =
+    let f = jobFigures s in
+    answerOf (jobVerdict s) (Figures (f .sites) (f .p) (f .q) (f .r) (f .rOver) (f .dark) (f .darkOver)) Refused
+
+-- the paper's numbers of an answer
+abbrev pub paperOf : Answer → Paper JobFigures
 paperOf (Figures sites p q r rOver level over) =
-    record { number = 0; place = 0; sites = sites; p = p; q = q; r = r; rOver = rOver; dark = level; darkOver = over }
-paperOf (Refused r) =
-    record { number = r .number; place = r .place; sites = 0; p = 0; q = 0; r = 0; rOver = 0; dark = pos 0; darkOver = 0 }
+    acceptedPaper (record { sites = sites; p = p; q = q; r = r; rOver = rOver; dark = level; darkOver = over })
+paperOf (Refused r) = refusedPaper r noFigures
 
 -- the paper's numbers for all inputs
-unfoldable pub jobPaper : List ℕ → JobPaper
-jobPaper s =
-    let v = jobVerdict s in
-    record {
-      number = numberOf v;
-      place = placeOf v;
-      sites = ifClear v (noiseIn s .n) 0;
-      p = ifClear v (varianceIn s .p) 0;
-      q = ifClear v (varianceIn s .q) 0;
-      r = ifClear v (noiseIn s .r) 0;
-      rOver = ifClear v (64 * noiseIn s .n) 0;
-      dark = ifClear v (darkIn s .numerator) (pos 0);
-      darkOver = ifClear v (darkIn s .denominator) 0;
-    }
+unfoldable pub jobPaper : List ℕ → Paper JobFigures
+jobPaper s = paperFor (jobVerdict s) (jobFigures s) noFigures

@@ -5,8 +5,8 @@ use mathlib.Core.List.{List, [], _∷_}
 use lib.Dec.{ltb}
 use Rattle.laws.specs.Table.{tabulate}
 use Rattle.window.specs.Shape.{badSides, sitesOf}
-use Rattle.window.specs.Verdict.{_⨟_, refuseIf}
-use Rattle.window.specs.declared.Verdict.{Verdict}
+use Rattle.verdict.specs.Verdict.{_⨟_, refuseIf}
+use Rattle.verdict.specs.declared.Verdict.{Verdict}
 use Rattle.raw.specs.Packed.{sample10, length10}
 use Rattle.stream.specs.Fields.{Field, field, wordAt, bodyAt, fieldsAt, pastAll, extraAt}
 

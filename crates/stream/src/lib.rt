@@ -7,14 +7,14 @@ ghost use Rattle.stream.specs.Stream.{sideFields, bodyFields, wideSides,
 ghost use Rattle.stream.specs.Job.{jobAnswer, paperOf, jobPaper};
 ghost use Rattle.stream.specs.Walk.{together, directly};
 ghost use Rattle.window.specs.Shape.{sitesOf};
-ghost use Rattle.window.specs.declared.Verdict.the-variants.{Clear};
+ghost use Rattle.verdict.specs.declared.Verdict.the-variants.{Clear};
 ghost use Rattle.raw.specs.Unpack.{unpackVerdict};
 ghost use Rattle.pair.specs.Answers.{noisePaperOf};
 use dark::Dark;
 use pair::Noise;
 use pair::Variance;
-use window::Refusal;
-use window::Verdict;
+use verdict::Refusal;
+use verdict::Verdict;
 
 // What the job prints: sites, variance p / q, noise r / r_over, dark dark / dark_over; or a refusal.
 pub enum Answer {
@@ -56,19 +56,19 @@ fn field(s: &[u8], at: usize, tag: u8, long: usize) -> Verdict
     requires { ⌜ (at < 65536) × (long < 65536) ⌝ }
     ensures { λ r. ⌜ r ≡ fieldAt (now (s .entry)) at (field tag long) ⌝ }
 {
-    let none = window::refuse_if(20, at, s.len() < at + 1);
-    let other = window::refuse_if(21, at, byte_at(s, at) != tag);
-    let short = window::refuse_if(20, at, s.len() < at + 3);
-    let wrong = window::refuse_if(22, at, word_at(s, at + 1) != long);
-    let cut = window::refuse_if(20, at, s.len() < at + 3 + long);
-    let length = window::then(short, window::then(wrong, cut));
-    window::then(none, window::then(other, length))
+    let none = verdict::refuse_if(20, at, s.len() < at + 1);
+    let other = verdict::refuse_if(21, at, byte_at(s, at) != tag);
+    let short = verdict::refuse_if(20, at, s.len() < at + 3);
+    let wrong = verdict::refuse_if(22, at, word_at(s, at + 1) != long);
+    let cut = verdict::refuse_if(20, at, s.len() < at + 3 + long);
+    let length = verdict::then(short, verdict::then(wrong, cut));
+    verdict::then(none, verdict::then(other, length))
 }
 
 fn side_fields(s: &[u8]) -> Verdict
     ensures { λ r. ⌜ r ≡ fieldsAt (now (s .entry)) 0 sideFields ⌝ }
 {
-    window::then(field(s, 0, 1, 2), field(s, 5, 2, 2))
+    verdict::then(field(s, 0, 1, 2), field(s, 5, 2, 2))
 }
 
 // The fields after the sides, in a stream of n sites.
@@ -85,10 +85,10 @@ fn body_fields(s: &[u8], n: usize) -> Verdict
     let first = field(s, at_first, 6, packed);
     let second = field(s, at_second, 7, packed);
     let last = field(s, at_second + 3 + packed, 0, 0);
-    let frames = window::then(first, window::then(second, last));
-    window::then(
+    let frames = verdict::then(first, verdict::then(second, last));
+    verdict::then(
         full_scale,
-        window::then(black_level, window::then(mask, frames)),
+        verdict::then(black_level, verdict::then(mask, frames)),
     )
 }
 
@@ -104,7 +104,7 @@ fn end(s: &[u8], n: usize) -> Verdict
     ensures { λ r. ⌜ r ≡ extraAt (now (s .entry)) (pastAll 10 (bodyFields n)) ⌝ }
 {
     let end = 32 + n + 2 * (n * 5 / 4);
-    window::refuse_if(23, end, end < s.len())
+    verdict::refuse_if(23, end, end < s.len())
 }
 
 // All that is judged of the stream before the library is asked.
@@ -112,11 +112,11 @@ fn judge(s: &[u8], width: usize, height: usize) -> Verdict
     ensures { λ r. ⌜ r ≡ faultsOf (now (s .entry)) width height ⌝ }
 {
     let n = window::sites(width, height);
-    let illegal = window::refuse_if(1, 0, window::bad_sides(width, height));
-    let wide = window::refuse_if(24, 0, wide_sides(width, height));
-    let bodies = window::then(body_fields(s, n), end(s, n));
-    let sides = window::then(illegal, window::then(wide, bodies));
-    window::then(side_fields(s), sides)
+    let illegal = verdict::refuse_if(1, 0, window::bad_sides(width, height));
+    let wide = verdict::refuse_if(24, 0, wide_sides(width, height));
+    let bodies = verdict::then(body_fields(s, n), end(s, n));
+    let sides = verdict::then(illegal, verdict::then(wide, bodies));
+    verdict::then(side_fields(s), sides)
 }
 
 // The frame in a body of RAW10, at the front of an array for the largest window.

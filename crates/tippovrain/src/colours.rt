@@ -22,9 +22,9 @@ pub extern "C" fn tip_colour_ratios(
 ) -> u64
     ensures number { λ r. ⌜ r ≡ colourPaper width height «full_scale» «black_level» «bayer_order» (now (mask .entry)) (now (frame .entry)) .number ⌝ }
     ensures place { λ r. ⌜ now (place .exit) ≡ colourPaper width height «full_scale» «black_level» «bayer_order» (now (mask .entry)) (now (frame .entry)) .place ⌝ }
-    ensures r { λ r. ⌜ ratio (now («r_numerator» .exit)) (now («r_denominator» .exit)) ≡ colourPaper width height «full_scale» «black_level» «bayer_order» (now (mask .entry)) (now (frame .entry)) .r ⌝ }
-    ensures b { λ r. ⌜ ratio (now («b_numerator» .exit)) (now («b_denominator» .exit)) ≡ colourPaper width height «full_scale» «black_level» «bayer_order» (now (mask .entry)) (now (frame .entry)) .b ⌝ }
-    ensures gb { λ r. ⌜ ratio (now («gb_numerator» .exit)) (now («gb_denominator» .exit)) ≡ colourPaper width height «full_scale» «black_level» «bayer_order» (now (mask .entry)) (now (frame .entry)) .gb ⌝ }
+    ensures r { λ r. ⌜ ratio (now («r_numerator» .exit)) (now («r_denominator» .exit)) ≡ colourPaper width height «full_scale» «black_level» «bayer_order» (now (mask .entry)) (now (frame .entry)) .figures .r ⌝ }
+    ensures b { λ r. ⌜ ratio (now («b_numerator» .exit)) (now («b_denominator» .exit)) ≡ colourPaper width height «full_scale» «black_level» «bayer_order» (now (mask .entry)) (now (frame .entry)) .figures .b ⌝ }
+    ensures gb { λ r. ⌜ ratio (now («gb_numerator» .exit)) (now («gb_denominator» .exit)) ≡ colourPaper width height «full_scale» «black_level» «bayer_order» (now (mask .entry)) (now (frame .entry)) .figures .gb ⌝ }
 {
     match colour::colour_ratios(
         width,

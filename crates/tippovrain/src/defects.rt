@@ -20,7 +20,7 @@ pub extern "C" fn tip_find_defects(
 ) -> u64
     ensures number { λ r. ⌜ r ≡ findPaper width height «full_scale» threshold (now (mask .entry)) (now (frame .entry)) (length (now («out_mask» .entry))) .number ⌝ }
     ensures place { λ r. ⌜ now (place .exit) ≡ findPaper width height «full_scale» threshold (now (mask .entry)) (now (frame .entry)) (length (now («out_mask» .entry))) .place ⌝ }
-    ensures count { λ r. ⌜ now (count .exit) ≡ findPaper width height «full_scale» threshold (now (mask .entry)) (now (frame .entry)) (length (now («out_mask» .entry))) .count ⌝ }
+    ensures count { λ r. ⌜ now (count .exit) ≡ findPaper width height «full_scale» threshold (now (mask .entry)) (now (frame .entry)) (length (now («out_mask» .entry))) .figures ⌝ }
     ensures buffer { λ r. ⌜ now («out_mask» .exit) ≡ findMask width height «full_scale» threshold (now (mask .entry)) (now (frame .entry)) (now («out_mask» .entry)) ⌝ }
 {
     match sites::find_defects(width, height, full_scale, threshold, mask, frame, out_mask) {
@@ -51,7 +51,7 @@ pub extern "C" fn tip_repair(
 ) -> u64
     ensures number { λ r. ⌜ r ≡ repairPaper width height «full_scale» (now (mask .entry)) (now (frame .entry)) (length (now («out_frame» .entry))) (length (now («out_mask» .entry))) .number ⌝ }
     ensures place { λ r. ⌜ now (place .exit) ≡ repairPaper width height «full_scale» (now (mask .entry)) (now (frame .entry)) (length (now («out_frame» .entry))) (length (now («out_mask» .entry))) .place ⌝ }
-    ensures filled { λ r. ⌜ now (filled .exit) ≡ repairPaper width height «full_scale» (now (mask .entry)) (now (frame .entry)) (length (now («out_frame» .entry))) (length (now («out_mask» .entry))) .count ⌝ }
+    ensures filled { λ r. ⌜ now (filled .exit) ≡ repairPaper width height «full_scale» (now (mask .entry)) (now (frame .entry)) (length (now («out_frame» .entry))) (length (now («out_mask» .entry))) .figures ⌝ }
     ensures frame { λ r. ⌜ now («out_frame» .exit) ≡ repairFrame width height «full_scale» (now (mask .entry)) (now (frame .entry)) (now («out_frame» .entry)) (length (now («out_mask» .entry))) ⌝ }
     ensures mask { λ r. ⌜ now («out_mask» .exit) ≡ repairMask width height «full_scale» (now (mask .entry)) (now (frame .entry)) (length (now («out_frame» .entry))) (now («out_mask» .entry)) ⌝ }
 {

@@ -15,11 +15,11 @@ pub extern "C" fn tip_job(
 ) -> u64
     ensures number { λ a. ⌜ a ≡ jobPaper (now (input .entry)) .number ⌝ }
     ensures place { λ a. ⌜ now (place .exit) ≡ jobPaper (now (input .entry)) .place ⌝ }
-    ensures sites { λ a. ⌜ now (sites .exit) ≡ jobPaper (now (input .entry)) .sites ⌝ }
-    ensures p { λ a. ⌜ now (p .exit) ≡ jobPaper (now (input .entry)) .p ⌝ }
-    ensures q { λ a. ⌜ now (q .exit) ≡ jobPaper (now (input .entry)) .q ⌝ }
-    ensures r { λ a. ⌜ now (r .exit) ≡ jobPaper (now (input .entry)) .r ⌝ }
-    ensures dark { λ a. ⌜ now (dark .exit) ≡ jobPaper (now (input .entry)) .dark ⌝ }
+    ensures sites { λ a. ⌜ now (sites .exit) ≡ jobPaper (now (input .entry)) .figures .sites ⌝ }
+    ensures p { λ a. ⌜ now (p .exit) ≡ jobPaper (now (input .entry)) .figures .p ⌝ }
+    ensures q { λ a. ⌜ now (q .exit) ≡ jobPaper (now (input .entry)) .figures .q ⌝ }
+    ensures r { λ a. ⌜ now (r .exit) ≡ jobPaper (now (input .entry)) .figures .r ⌝ }
+    ensures dark { λ a. ⌜ now (dark .exit) ≡ jobPaper (now (input .entry)) .figures .dark ⌝ }
 {
     match stream::job(input) {
         Answer::Figures {

@@ -17,8 +17,8 @@ pub extern "C" fn tip_dark_level(
 ) -> u64
     ensures number { λ r. ⌜ r ≡ darkPaper width height «full_scale» «black_level» (now (mask .entry)) (now (frame .entry)) .number ⌝ }
     ensures place { λ r. ⌜ now (place .exit) ≡ darkPaper width height «full_scale» «black_level» (now (mask .entry)) (now (frame .entry)) .place ⌝ }
-    ensures numerator { λ r. ⌜ now (numerator .exit) ≡ darkPaper width height «full_scale» «black_level» (now (mask .entry)) (now (frame .entry)) .numerator ⌝ }
-    ensures denominator { λ r. ⌜ now (denominator .exit) ≡ darkPaper width height «full_scale» «black_level» (now (mask .entry)) (now (frame .entry)) .denominator ⌝ }
+    ensures numerator { λ r. ⌜ now (numerator .exit) ≡ darkPaper width height «full_scale» «black_level» (now (mask .entry)) (now (frame .entry)) .figures .numerator ⌝ }
+    ensures denominator { λ r. ⌜ now (denominator .exit) ≡ darkPaper width height «full_scale» «black_level» (now (mask .entry)) (now (frame .entry)) .figures .denominator ⌝ }
 {
     match dark::dark_level(width, height, full_scale, black_level, mask, frame) {
         Dark::Level(over, count) => {

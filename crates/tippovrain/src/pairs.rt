@@ -19,9 +19,9 @@ pub extern "C" fn tip_pair_variance(
 ) -> u64
     ensures number { λ r. ⌜ r ≡ variancePaper width height «full_scale» (now (mask .entry)) (now (first .entry)) (now (second .entry)) .number ⌝ }
     ensures place { λ r. ⌜ now (place .exit) ≡ variancePaper width height «full_scale» (now (mask .entry)) (now (first .entry)) (now (second .entry)) .place ⌝ }
-    ensures p { λ r. ⌜ now (p .exit) ≡ variancePaper width height «full_scale» (now (mask .entry)) (now (first .entry)) (now (second .entry)) .p ⌝ }
-    ensures q { λ r. ⌜ now (q .exit) ≡ variancePaper width height «full_scale» (now (mask .entry)) (now (first .entry)) (now (second .entry)) .q ⌝ }
-    ensures variance { λ r. ⌜ now (variance .exit) ≡ variancePaper width height «full_scale» (now (mask .entry)) (now (first .entry)) (now (second .entry)) .variance ⌝ }
+    ensures p { λ r. ⌜ now (p .exit) ≡ variancePaper width height «full_scale» (now (mask .entry)) (now (first .entry)) (now (second .entry)) .figures .p ⌝ }
+    ensures q { λ r. ⌜ now (q .exit) ≡ variancePaper width height «full_scale» (now (mask .entry)) (now (first .entry)) (now (second .entry)) .figures .q ⌝ }
+    ensures variance { λ r. ⌜ now (variance .exit) ≡ variancePaper width height «full_scale» (now (mask .entry)) (now (first .entry)) (now (second .entry)) .figures .variance ⌝ }
 {
     match pair::pair_variance(width, height, full_scale, mask, first, second) {
         Variance::Figures {
@@ -60,9 +60,9 @@ pub extern "C" fn tip_pair_noise(
 ) -> u64
     ensures number { λ a. ⌜ a ≡ noisePaper width height «full_scale» (now (mask .entry)) (now (first .entry)) (now (second .entry)) .number ⌝ }
     ensures place { λ a. ⌜ now (place .exit) ≡ noisePaper width height «full_scale» (now (mask .entry)) (now (first .entry)) (now (second .entry)) .place ⌝ }
-    ensures r { λ a. ⌜ now (r .exit) ≡ noisePaper width height «full_scale» (now (mask .entry)) (now (first .entry)) (now (second .entry)) .r ⌝ }
-    ensures n { λ a. ⌜ now (n .exit) ≡ noisePaper width height «full_scale» (now (mask .entry)) (now (first .entry)) (now (second .entry)) .n ⌝ }
-    ensures noise { λ a. ⌜ now (noise .exit) ≡ noisePaper width height «full_scale» (now (mask .entry)) (now (first .entry)) (now (second .entry)) .noise ⌝ }
+    ensures r { λ a. ⌜ now (r .exit) ≡ noisePaper width height «full_scale» (now (mask .entry)) (now (first .entry)) (now (second .entry)) .figures .r ⌝ }
+    ensures n { λ a. ⌜ now (n .exit) ≡ noisePaper width height «full_scale» (now (mask .entry)) (now (first .entry)) (now (second .entry)) .figures .n ⌝ }
+    ensures noise { λ a. ⌜ now (noise .exit) ≡ noisePaper width height «full_scale» (now (mask .entry)) (now (first .entry)) (now (second .entry)) .figures .noise ⌝ }
 {
     match pair::pair_noise(width, height, full_scale, mask, first, second) {
         Noise::Figure {

@@ -20,7 +20,7 @@ pub extern "C" fn tip_stack_add(
 ) -> u64
     ensures number { λ r. ⌜ r ≡ addPaper width height «full_scale» frames (now (mask .entry)) (now (frame .entry)) (now (sums .entry)) (now (squares .entry)) .number ⌝ }
     ensures place { λ r. ⌜ now (place .exit) ≡ addPaper width height «full_scale» frames (now (mask .entry)) (now (frame .entry)) (now (sums .entry)) (now (squares .entry)) .place ⌝ }
-    ensures count { λ r. ⌜ now (count .exit) ≡ addPaper width height «full_scale» frames (now (mask .entry)) (now (frame .entry)) (now (sums .entry)) (now (squares .entry)) .count ⌝ }
+    ensures count { λ r. ⌜ now (count .exit) ≡ addPaper width height «full_scale» frames (now (mask .entry)) (now (frame .entry)) (now (sums .entry)) (now (squares .entry)) .figures ⌝ }
     ensures sums { λ r. ⌜ now (sums .exit) ≡ addSums width height «full_scale» frames (now (mask .entry)) (now (frame .entry)) (now (sums .entry)) (now (squares .entry)) ⌝ }
     ensures squares { λ r. ⌜ now (squares .exit) ≡ addSquares width height «full_scale» frames (now (mask .entry)) (now (frame .entry)) (now (sums .entry)) (now (squares .entry)) ⌝ }
 {
@@ -63,9 +63,9 @@ pub extern "C" fn tip_stack_variance(
 ) -> u64
     ensures number { λ r. ⌜ r ≡ variancePaper width height «full_scale» frames (now (mask .entry)) (now (sums .entry)) (now (squares .entry)) .number ⌝ }
     ensures place { λ r. ⌜ now (place .exit) ≡ variancePaper width height «full_scale» frames (now (mask .entry)) (now (sums .entry)) (now (squares .entry)) .place ⌝ }
-    ensures numerator { λ r. ⌜ now (numerator .exit) ≡ variancePaper width height «full_scale» frames (now (mask .entry)) (now (sums .entry)) (now (squares .entry)) .numerator ⌝ }
-    ensures denominator { λ r. ⌜ now (denominator .exit) ≡ variancePaper width height «full_scale» frames (now (mask .entry)) (now (sums .entry)) (now (squares .entry)) .denominator ⌝ }
-    ensures variance { λ r. ⌜ now (variance .exit) ≡ variancePaper width height «full_scale» frames (now (mask .entry)) (now (sums .entry)) (now (squares .entry)) .variance ⌝ }
+    ensures numerator { λ r. ⌜ now (numerator .exit) ≡ variancePaper width height «full_scale» frames (now (mask .entry)) (now (sums .entry)) (now (squares .entry)) .figures .numerator ⌝ }
+    ensures denominator { λ r. ⌜ now (denominator .exit) ≡ variancePaper width height «full_scale» frames (now (mask .entry)) (now (sums .entry)) (now (squares .entry)) .figures .denominator ⌝ }
+    ensures variance { λ r. ⌜ now (variance .exit) ≡ variancePaper width height «full_scale» frames (now (mask .entry)) (now (sums .entry)) (now (squares .entry)) .figures .variance ⌝ }
 {
     match stack::stack_variance(width, height, full_scale, frames, mask, sums, squares) {
         Variance::Figures(over, under, quotient) => {

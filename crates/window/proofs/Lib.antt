@@ -2,6 +2,5 @@ pub mod Sides
 pub mod Searches
 pub mod Walks
 pub mod Views
-pub mod Verdicts
 pub mod Chains
-pub mod Planes
+pub mod Judges

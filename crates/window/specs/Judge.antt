@@ -3,10 +3,11 @@ use Prim.Native.Nat.{ℕ}
 use mathlib.Core.Bool.{Bool, cond, not}
 use mathlib.Core.List.{List}
 use lib.Dec.{eqb}
+use lib.ListN.{length}
 use Rattle.window.specs.Shape.{badSides, badScale, sitesOf}
-use Rattle.window.specs.View.{badCode, above}
-use Rattle.window.specs.Verdict.{_⨟_, refuseIf, refuseFirst}
-use Rattle.window.specs.declared.Verdict.{Verdict}
+use Rattle.window.specs.View.{badCode, above, seen}
+use Rattle.verdict.specs.Verdict.{_⨟_, refuseIf, refuseFirst}
+use Rattle.verdict.specs.declared.Verdict.{Verdict}
 
 -- 1: a side is odd or not in 2..128; 2: full scale not in 1..4095
 unfoldable pub shapeOf : ℕ → ℕ → ℕ → Verdict
@@ -17,6 +18,10 @@ shapeOf w h full = refuseIf 1 0 (badSides w h) ⨟ refuseIf 2 0 (badScale full)
 abbrev pub otherThan : ℕ → ℕ → Bool
 otherThan needed long = not (eqb long needed)
 
+-- 4, of a buffer that is to have one element for each site
+abbrev pub lengthOf : ℕ → ℕ → ℕ → Verdict
+lengthOf w h long = refuseIf 4 0 (otherThan (sitesOf w h) long)
+
 -- 5: a mask code is above 3, at the first such site of n
 abbrev pub codesOf : ℕ → List ℕ → Verdict
 codesOf n mask = refuseFirst 5 n (badCode mask)
@@ -24,6 +29,22 @@ codesOf n mask = refuseFirst 5 n (badCode mask)
 -- 6: what is seen at a site is above full scale, at the first such site of n
 abbrev pub samplesOf : ℕ → ℕ → (ℕ → ℕ) → Verdict
 samplesOf n full view = refuseFirst 6 n (above full view)
+
+-- 1 to 5 of a call with a mask, in their order. The call's own tests stand in their places: `numbers`, what else is handed in (3), and
+-- `lengths`, what else is lent (4). Where it has none, they are `Clear`.
+unfoldable pub maskVerdict : ℕ → ℕ → ℕ → Verdict → List ℕ → Verdict → Verdict
+maskVerdict w h full numbers mask lengths =
+    shapeOf w h full
+    ⨟ numbers
+    ⨟ lengthOf w h (length mask)
+    ⨟ lengths
+    ⨟ codesOf (sitesOf w h) mask
+
+-- 1 to 6 of a call with a mask and a frame
+unfoldable pub frameVerdict : ℕ → ℕ → ℕ → Verdict → List ℕ → List ℕ → Verdict → Verdict
+frameVerdict w h full numbers mask frame lengths =
+    maskVerdict w h full numbers mask (lengthOf w h (length frame) ⨟ lengths)
+    ⨟ samplesOf (sitesOf w h) full (seen mask frame)
 
 -- the sites of a window that a buffer of this length lets be walked: all, where it has just as many, or none
 unfoldable pub walked : ℕ → ℕ → ℕ → ℕ

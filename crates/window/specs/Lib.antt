@@ -1,5 +1,3 @@
 pub mod Shape
 pub mod View
-pub mod Verdict
 pub mod Judge
-pub mod Plane

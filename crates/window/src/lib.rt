@@ -1,46 +1,14 @@
-// What every call on a window shares: its sides and full scale, what is seen through a mask, refusals, and the four planes.
+// What every call on a window shares: its sides and full scale, what is seen through a mask, and the refusals of both.
 ghost use mathlib.Core.Bool.{true, false};
 ghost use mathlib.Core.Path.{_≡_};
-ghost use Prim.Native.Nat.{ℕ, _+_, _*_, _/_, _≤_, _<_, min};
+ghost use Prim.Native.Nat.{_*_, _≤_, min};
 ghost use lib.ListN.{length};
 ghost use Rattle.laws.specs.First.{firstTo, someTo};
-ghost use Rattle.laws.specs.Sum.{sumTo, sumIn, sumBox};
+ghost use Rattle.laws.specs.Sum.{sumTo};
 ghost use Rattle.window.specs.Shape.{badSide, badSides, badScale, badCount, sitesOf};
 ghost use Rattle.window.specs.View.{codeAbove, badCode, seenAt, seen, one, above};
-ghost use Rattle.window.specs.Verdict.{_⨟_, refuseIf};
-ghost use Rattle.window.specs.Judge.{shapeOf, codesOf, samplesOf, walked};
-ghost use Rattle.window.specs.Plane.{siteAt, boxSums};
-
-// A refusal's number and place, as document 01 tables them.
-pub struct Refusal {
-    pub number: u64,
-    pub place: usize,
-}
-
-pub enum Verdict {
-    Clear,
-    Refused(Refusal),
-}
-
-// The first of two verdicts that refuses.
-pub fn then(first: Verdict, second: Verdict) -> Verdict
-    ensures { λ r. ⌜ r ≡ first ⨟ second ⌝ }
-{
-    match first {
-        Verdict::Clear => second,
-        Verdict::Refused(refusal) => Verdict::Refused(refusal),
-    }
-}
-
-pub fn refuse_if(number: u64, place: usize, applies: bool) -> Verdict
-    ensures { λ r. ⌜ r ≡ refuseIf number place applies ⌝ }
-{
-    if applies {
-        Verdict::Refused(Refusal { number, place })
-    } else {
-        Verdict::Clear
-    }
-}
+ghost use Rattle.window.specs.Judge.{shapeOf, lengthOf, codesOf, samplesOf, maskVerdict, frameVerdict, walked};
+use verdict::Verdict;
 
 fn bad_side(side: usize) -> bool
     ensures { λ r. ⌜ r ≡ badSide side ⌝ }
@@ -86,9 +54,16 @@ pub fn sites(width: usize, height: usize) -> usize
 pub fn shape(width: usize, height: usize, full_scale: u64) -> Verdict
     ensures { λ r. ⌜ r ≡ shapeOf width height «full_scale» ⌝ }
 {
-    let sides = refuse_if(1, 0, bad_sides(width, height));
-    let scale = refuse_if(2, 0, bad_scale(full_scale));
-    then(sides, scale)
+    let sides = verdict::refuse_if(1, 0, bad_sides(width, height));
+    let scale = verdict::refuse_if(2, 0, bad_scale(full_scale));
+    verdict::then(sides, scale)
+}
+
+// Refusal 4, of a buffer that is to have one element for each site.
+pub fn length(width: usize, height: usize, long: usize) -> Verdict
+    ensures { λ r. ⌜ r ≡ lengthOf width height long ⌝ }
+{
+    verdict::refuse_if(4, 0, long != sites(width, height))
 }
 
 // A sample as its site's code lets it be seen.
@@ -98,7 +73,8 @@ pub fn seen_at(code: u8, sample: u16) -> u16
     if code == 0 { sample } else { 0 }
 }
 
-fn one_at(code: u8) -> u32
+// 1 as a site's code lets it be seen: what counts the surveyed sites.
+pub fn one_at(code: u8) -> u32
     ensures { λ r. ⌜ (r ≡ seenAt code 1) × (r ≤ 1) ⌝ }
 {
     if code == 0 { 1 } else { 0 }
@@ -201,7 +177,7 @@ fn none_over(full_scale: u64, mask: &[u8], frame: &[u16]) -> bool
 }
 
 // The sites that a buffer of this length lets be walked: the window's, where it has just as many, or none.
-fn walkable(width: usize, height: usize, long: usize) -> usize
+pub fn walkable(width: usize, height: usize, long: usize) -> usize
     ensures { λ r. ⌜ r ≡ walked width height long ⌝ }
 {
     let n = sites(width, height);
@@ -220,7 +196,7 @@ pub fn codes(width: usize, height: usize, mask: &[u8]) -> Verdict
         return Verdict::Clear;
     }
     let place = first_bad_code(width, height, mask);
-    refuse_if(5, place, place < n)
+    verdict::refuse_if(5, place, place < n)
 }
 
 // Refusal 6, of a frame and a mask that have the window's sites; any others are not walked.
@@ -238,152 +214,41 @@ pub fn samples(width: usize, height: usize, full_scale: u64, mask: &[u8], frame:
         return Verdict::Clear;
     }
     let place = first_over(width, height, full_scale, mask, frame);
-    refuse_if(6, place, place < n)
+    verdict::refuse_if(6, place, place < n)
 }
 
-// A box of a plane's coordinates: rows from top to before bottom, columns from left to before right.
-pub struct PlaneBox {
-    pub top: usize,
-    pub bottom: usize,
-    pub left: usize,
-    pub right: usize,
-}
-
-// How many sites are surveyed, and the sum of their samples.
-pub struct Sums {
-    pub count: u64,
-    pub total: u64,
-}
-
-fn sample_at(code: u8, sample: u16) -> u32
-    ensures { λ r. ⌜ (r ≡ seenAt code sample) × (r ≤ 65535) ⌝ }
-{
-    seen_at(code, sample) as u32
-}
-
-// A run of sites: those at start + step v, from v = first to before last.
-fn run_sums(
-    start: usize,
-    step: usize,
-    first: usize,
-    last: usize,
-    mask: &[u8],
-    frame: &[u16],
-) -> Sums
-    requires { ⌜ (first ≤ last) × (last ≤ 64) × (length (now frame) ≡ length (now mask)) ⌝ }
-    requires { ⌜ ((v : ℕ) → v < last → start + step * v < length (now mask)) ⌝ }
-    ensures { λ r. ⌜ (r .count ≡ sumIn first last (λ (v : ℕ). one (now (mask .entry)) (start + step * v))) × (r .count ≤ 64) ⌝ }
-    ensures { λ r. ⌜ (r .total ≡ sumIn first last (λ (v : ℕ). seen (now (mask .entry)) (now (frame .entry)) (start + step * v))) × (r .total ≤ 4194240) ⌝ }
-{
-    let mut count: u32 = 0;
-    let mut total: u32 = 0;
-    let mut v = first;
-    while v < last {
-        let at = start + step * v;
-        let code = mask[at];
-        count += one_at(code);
-        total += sample_at(code, frame[at]);
-        v += 1;
-    }
-    Sums {
-        count: count as u64,
-        total: total as u64,
-    }
-}
-
-// Runs side by side: the sites at start + stride u + step v, from u = top to before bottom.
-fn runs_sums(
-    start: usize,
-    stride: usize,
-    step: usize,
-    top: usize,
-    bottom: usize,
-    first: usize,
-    last: usize,
-    mask: &[u8],
-    frame: &[u16],
-) -> Sums
-    requires { ⌜ (start ≤ 129) × (stride ≤ 256) × (top ≤ bottom) × (bottom ≤ 64) × (first ≤ last) × (last ≤ 64) × (length (now frame) ≡ length (now mask)) ⌝ }
-    requires { ⌜ ((u v : ℕ) → u < bottom → v < last → start + stride * u + step * v < length (now mask)) ⌝ }
-    ensures { λ r. ⌜ (r .count ≡ sumBox top bottom first last (λ (u v : ℕ). one (now (mask .entry)) (start + stride * u + step * v))) × (r .count ≤ 4096) ⌝ }
-    ensures { λ r. ⌜ r .total ≡ sumBox top bottom first last (λ (u v : ℕ). seen (now (mask .entry)) (now (frame .entry)) (start + stride * u + step * v)) ⌝ }
-{
-    let mut count = 0;
-    let mut total = 0;
-    let mut u = top;
-    while u < bottom {
-        let sums = run_sums(start + stride * u, step, first, last, mask, frame);
-        count += sums.count;
-        total += sums.total;
-        u += 1;
-    }
-    Sums { count, total }
-}
-
-fn least(a: usize, b: usize) -> usize
-    ensures { λ r. ⌜ r ≡ min a b ⌝ }
-{
-    if a < b { a } else { b }
-}
-
-// A box that lies inside the plane: row by row, or column by column where it is too narrow for a row to be worth a run.
-fn inner_sums(
+// Refusals 1 to 5 of a call with a mask, with the call's own for 3, `numbers`, and for 4, `lengths`, in their places.
+pub fn judge_mask(
     width: usize,
     height: usize,
-    plane: usize,
-    top: usize,
-    bottom: usize,
-    left: usize,
-    right: usize,
+    full_scale: u64,
+    numbers: Verdict,
     mask: &[u8],
-    frame: &[u16],
-) -> Sums
-    requires { ⌜ (height ≤ 128) × (width ≤ 128) × (top ≤ bottom) × (bottom ≤ height / 2) × (left ≤ right) × (right ≤ width / 2) ⌝ }
-    requires { ⌜ (length (now mask) ≡ height * width) × (length (now frame) ≡ height * width) ⌝ }
-    ensures { λ r. ⌜ (r .count ≡ sumBox top bottom left right (λ (u v : ℕ). one (now (mask .entry)) (siteAt width plane u v))) × (r .count ≤ 4096) ⌝ }
-    ensures { λ r. ⌜ r .total ≡ sumBox top bottom left right (λ (u v : ℕ). seen (now (mask .entry)) (now (frame .entry)) (siteAt width plane u v)) ⌝ }
+    lengths: Verdict,
+) -> Verdict
+    ensures { λ r. ⌜ r ≡ maskVerdict width height «full_scale» numbers (now (mask .entry)) lengths ⌝ }
 {
-    let row = plane / 2 % 2;
-    let column = plane % 2;
-    let start = row * width + column;
-    let down = 2 * width;
-    if right - left < 4 {
-        runs_sums(start, 2, down, left, right, top, bottom, mask, frame)
-    } else {
-        runs_sums(start, down, 2, top, bottom, left, right, mask, frame)
-    }
+    let shaped = shape(width, height, full_scale);
+    let masked = length(width, height, mask.len());
+    let coded = codes(width, height, mask);
+    let lent = verdict::then(masked, verdict::then(lengths, coded));
+    verdict::then(shaped, verdict::then(numbers, lent))
 }
 
-// What is seen in a box of a plane, which is cut off at the plane's edges; nothing in buffers that have not the window's sites.
-pub fn box_sums(
+// Refusals 1 to 6 of a call with a mask and a frame, likewise.
+pub fn judge_frame(
     width: usize,
     height: usize,
-    plane: usize,
-    within: PlaneBox,
+    full_scale: u64,
+    numbers: Verdict,
     mask: &[u8],
     frame: &[u16],
-) -> Sums
-    ensures { λ r. ⌜ r ≡ boxSums width height plane within (now (mask .entry)) (now (frame .entry)) ⌝ }
-    ensures { λ r. ⌜ (r .count ≤ 4096) × (r .total ≤ 65535 * r .count) ⌝ }
+    lengths: Verdict,
+) -> Verdict
+    ensures { λ r. ⌜ r ≡ frameVerdict width height «full_scale» numbers (now (mask .entry)) (now (frame .entry)) lengths ⌝ }
 {
-    let walked = least(
-        walkable(width, height, mask.len()),
-        walkable(width, height, frame.len()),
-    );
-    if walked == 0 {
-        return Sums { count: 0, total: 0 };
-    }
-    let bottom = least(within.bottom, height / 2);
-    let right = least(within.right, width / 2);
-    inner_sums(
-        width,
-        height,
-        plane,
-        least(within.top, bottom),
-        bottom,
-        least(within.left, right),
-        right,
-        mask,
-        frame,
-    )
+    let framed = verdict::then(length(width, height, frame.len()), lengths);
+    let masked = judge_mask(width, height, full_scale, numbers, mask, framed);
+    let over = samples(width, height, full_scale, mask, frame);
+    verdict::then(masked, over)
 }

@@ -1,8 +1,8 @@
 -- `centres_seen` is right because each colour's plane is summed over the centre.
 use Prim.Native.Nat.{ℕ}
 use borrow.Author.Needs.{needs}
-use Rattle.window.specs.declared.PlaneBox.{PlaneBox}
-use Rattle.window.specs.Plane.{boxSums}
+use Rattle.plane.specs.declared.PlaneBox.{PlaneBox}
+use Rattle.plane.specs.Plane.{boxSums}
 use Rattle.colour.proofs.Shown.{by-colour}
 use Rattle.colour.proofs.centres_seen.Statement.{statement}
 use Rattle.colour.proofs.centres_seen.Tie as tie

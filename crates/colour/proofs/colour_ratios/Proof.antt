@@ -2,7 +2,7 @@
 use mathlib.Core.Path.{_≡_, ap, sym, _∙_}
 use borrow.Author.Needs.{needs}
 use native.Mathlib.Omega.{arith}
-use Rattle.window.specs.declared.Verdict.the-variants as verdict
+use Rattle.verdict.specs.declared.Verdict.the-variants as verdict
 use Rattle.colour.specs.Colour.{frameVerdict, colourVerdict, centresSeen}
 use Rattle.colour.specs.declared.Centres.{Centres}
 use Rattle.colour.proofs.Judged.{fair, lent, accepted, whole, rest, frame-refused, refused-is, accepted-is}

@@ -2,7 +2,7 @@
 use mathlib.Core.Path.{_∙_}
 use borrow.Author.Needs.{needs}
 use Rattle.colour.proofs.Judged.{judged}
-use Rattle.window.proofs.Verdicts.{then-of}
+use Rattle.verdict.proofs.Verdicts.{then-of}
 use Rattle.window.proofs.Chains.{length-told}
 use Rattle.colour.proofs.judge.Statement.{statement}
 use Rattle.colour.proofs.judge.Tie as tie

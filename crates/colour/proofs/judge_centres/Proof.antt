@@ -2,8 +2,8 @@
 use mathlib.Core.Bool.{Bool}
 use mathlib.Core.Path.{ap, _∙_}
 use borrow.Author.Needs.{needs}
-use Rattle.window.specs.Verdict.{refuseIf}
-use Rattle.window.proofs.Verdicts.{then-of}
+use Rattle.verdict.specs.Verdict.{refuseIf}
+use Rattle.verdict.proofs.Verdicts.{then-of}
 use Rattle.colour.proofs.judge_centres.Statement.{statement}
 use Rattle.colour.proofs.judge_centres.Tie as tie
 

@@ -7,7 +7,7 @@ use borrow.Author.Needs.{needs}
 use Rattle.window.proofs.Walks.{walked-whole}
 use Rattle.dark.proofs.Levels.{accepted, refused-is, accepted-is}
 use Rattle.dark.specs.Dark.{aboveBlack, darkVerdict}
-use Rattle.window.specs.declared.Verdict.the-variants as verdict
+use Rattle.verdict.specs.declared.Verdict.the-variants as verdict
 use Rattle.window.specs.View.{seen, one}
 use Rattle.laws.specs.Sum.{sumTo}
 use Rattle.dark.proofs.dark_level.Statement.{statement}

@@ -4,8 +4,8 @@ use mathlib.Core.Path.{ap, _∙_}
 use lib.Dec.{ltb}
 use borrow.Author.Needs.{needs}
 use Rattle.lines.proofs.Marking.{judged}
-use Rattle.window.specs.Verdict.{refuseIf}
-use Rattle.window.proofs.Verdicts.{then-of}
+use Rattle.verdict.specs.Verdict.{refuseIf}
+use Rattle.verdict.proofs.Verdicts.{then-of}
 use Rattle.window.proofs.Chains.{length-told}
 use Rattle.lines.proofs.judge.Statement.{statement}
 use Rattle.lines.proofs.judge.Tie as tie

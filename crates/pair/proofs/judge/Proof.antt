@@ -1,7 +1,7 @@
 -- `judge` is right because it asks the definition's tests in its order, and what walks the sites walks all of them where 4 does not apply.
 use mathlib.Core.Path.{_∙_}
 use borrow.Author.Needs.{needs}
-use Rattle.window.proofs.Verdicts.{then-of}
+use Rattle.verdict.proofs.Verdicts.{then-of}
 use Rattle.window.proofs.Chains.{length-told}
 use Rattle.pair.proofs.Frames.{judged}
 use Rattle.pair.proofs.judge.Statement.{statement}

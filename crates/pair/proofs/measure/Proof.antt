@@ -1,7 +1,7 @@
 -- `measure` is right because 1 to 6 are judged before the walk, 7 and 14 after it, and that is the definition's order.
 use mathlib.Core.Path.{sym, _∙_}
 use borrow.Author.Needs.{needs}
-use Rattle.window.proofs.Verdicts.{then-of}
+use Rattle.verdict.proofs.Verdicts.{then-of}
 use Rattle.pair.proofs.Measures.{lent, frames-refused, last-refused, last-clear}
 use Rattle.pair.proofs.measure.Statement.{statement}
 use Rattle.pair.proofs.measure.Tie as tie

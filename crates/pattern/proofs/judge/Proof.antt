@@ -3,8 +3,8 @@ use Prim.Native.Nat.{ℕ}
 use mathlib.Core.Path.{ap, _∙_}
 use lib.Dec.{ltb}
 use borrow.Author.Needs.{needs}
-use Rattle.window.specs.Verdict.{refuseIf}
-use Rattle.window.proofs.Verdicts.{then-of}
+use Rattle.verdict.specs.Verdict.{refuseIf}
+use Rattle.verdict.proofs.Verdicts.{then-of}
 use Rattle.window.proofs.Chains.{length-told}
 use Rattle.pattern.proofs.Judges.{judged}
 use Rattle.pattern.proofs.judge.Statement.{statement}

@@ -1,7 +1,7 @@
 -- `pattern_by` is right because it measures only what nothing refuses, and then every sum is seen.
 use mathlib.Core.Path.{_≡_, sym, _∙_}
 use borrow.Author.Needs.{needs}
-use Rattle.window.specs.declared.Verdict.the-variants as verdict
+use Rattle.verdict.specs.declared.Verdict.the-variants as verdict
 use Rattle.pattern.proofs.Judges.{Clean, clean, figures-seen, refused-is, accepted-is}
 use Rattle.pattern.specs.Pattern.{patternVerdict}
 use Rattle.pattern.specs.Walk.{lined}

@@ -1,7 +1,7 @@
 -- `judge_repair` is right because it asks the definition's tests in its order, and 5 and 6 of whole buffers alone.
 use mathlib.Core.Path.{_∙_}
 use borrow.Author.Needs.{needs}
-use Rattle.window.proofs.Verdicts.{then-of}
+use Rattle.verdict.proofs.Verdicts.{then-of}
 use Rattle.window.proofs.Chains.{length-told}
 use Rattle.sites.proofs.Repairs.{repair-told}
 use Rattle.sites.proofs.judge_repair.Statement.{statement}

@@ -2,7 +2,7 @@
 use mathlib.Core.Path.{_∙_}
 use borrow.Author.Needs.{needs}
 use Rattle.stack.proofs.Adds.{judged}
-use Rattle.window.proofs.Verdicts.{then-of}
+use Rattle.verdict.proofs.Verdicts.{then-of}
 use Rattle.window.proofs.Chains.{length-told}
 use Rattle.stack.proofs.judge_frame.Statement.{statement}
 use Rattle.stack.proofs.judge_frame.Tie as tie

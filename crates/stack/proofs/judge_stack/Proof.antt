@@ -2,9 +2,9 @@
 use mathlib.Core.Path.{ap, _∙_}
 use borrow.Author.Needs.{needs}
 use Rattle.stack.proofs.Variances.{judged}
-use Rattle.window.proofs.Verdicts.{then-of}
+use Rattle.verdict.proofs.Verdicts.{then-of}
 use Rattle.window.proofs.Chains.{length-told}
-use Rattle.window.specs.Verdict.{refuseIf}
+use Rattle.verdict.specs.Verdict.{refuseIf}
 use Rattle.stack.proofs.judge_stack.Statement.{statement}
 use Rattle.stack.proofs.judge_stack.Tie as tie
 

@@ -2,7 +2,7 @@
 use mathlib.Core.Path.{sym, ap, _∙_}
 use borrow.Author.Needs.{needs}
 use Rattle.stack.proofs.Turns.{asked-all, not-asked}
-use Rattle.window.specs.Verdict.{refuseIf}
+use Rattle.verdict.specs.Verdict.{refuseIf}
 use Rattle.stack.proofs.possible.Statement.{statement}
 use Rattle.stack.proofs.possible.Tie as tie
 

@@ -4,7 +4,7 @@ use native.Mathlib.Omega.{arith}
 use borrow.Author.Needs.{needs}
 use Rattle.stack.proofs.Adds.{Accepted, accepted, sum-room, square-room, refused-is, accepted-is}
 use Rattle.stack.specs.Add.{addVerdict}
-use Rattle.window.specs.declared.Verdict.the-variants as verdict
+use Rattle.verdict.specs.declared.Verdict.the-variants as verdict
 use Rattle.stack.proofs.stack_add.Statement.{statement}
 use Rattle.stack.proofs.stack_add.Tie as tie
 

@@ -2,7 +2,7 @@
 use mathlib.Core.Path.{_≡_, sym, _∙_}
 use native.Mathlib.Omega.{arith}
 use borrow.Author.Needs.{needs}
-use Rattle.window.specs.declared.Verdict.the-variants as verdict
+use Rattle.verdict.specs.declared.Verdict.the-variants as verdict
 use Rattle.stack.specs.Variance.{sumsVerdict}
 use Rattle.stack.proofs.Variances.{sums-refused, walkable, numerator-refused, frames-fit, denominator-fits, accepted-is}
 use Rattle.stack.proofs.stack_variance.Statement.{statement}

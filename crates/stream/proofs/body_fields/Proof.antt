@@ -1,6 +1,6 @@
 -- `body_fields` is right because each field begins where the one before it ends.
 use borrow.Author.Needs.{needs}
-use Rattle.window.proofs.Verdicts.{then-end}
+use Rattle.verdict.proofs.Verdicts.{then-end}
 use Rattle.stream.specs.Fields.{fieldsAt}
 use Rattle.stream.proofs.body_fields.Statement.{statement}
 use Rattle.stream.proofs.body_fields.Tie as tie

@@ -1,6 +1,6 @@
 -- `side_fields` is right because the second field begins where the first ends.
 use borrow.Author.Needs.{needs}
-use Rattle.window.proofs.Verdicts.{then-end}
+use Rattle.verdict.proofs.Verdicts.{then-end}
 use Rattle.stream.specs.Fields.{fieldsAt}
 use Rattle.stream.proofs.side_fields.Statement.{statement}
 use Rattle.stream.proofs.side_fields.Tie as tie

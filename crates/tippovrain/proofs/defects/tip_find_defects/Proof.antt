@@ -1,8 +1,8 @@
 -- `tip_find_defects` is right because it hands out the paper's numbers of the answer, each in its place.
 use mathlib.Core.Path.{sym, ap, _∙_}
 use borrow.Author.Needs.{needs}
-use Rattle.sites.specs.Paper.{Paper}
-use Rattle.sites.specs.Find.{foundPaperOf}
+use Rattle.verdict.specs.Answer.{Paper}
+use Rattle.sites.specs.Find.{findPaperOf}
 use Rattle.tippovrain.proofs.defects.tip_find_defects.Statement.{statement}
 use Rattle.tippovrain.proofs.defects.tip_find_defects.Tie as tie
 
@@ -20,16 +20,16 @@ same-length c = search needs
 
 returns : tie.Need-returns
 returns c = let call = c .before .before .before .before .before .find-defects .ensures in
-    let e = sym (ap foundPaperOf (c .before .found .given .1)) ∙ call .1 .0 in
-    (ap (λ (p : Paper). p .number) e, (ap (λ (p : Paper). p .place) e, (ap (λ (p : Paper). p .count) e, call .1 .1)))
+    let e = sym (ap findPaperOf (c .before .found .given .1)) ∙ call .1 .0 in
+    (ap (λ (p : Paper ℕ). p .number) e, (ap (λ (p : Paper ℕ). p .place) e, (ap (λ (p : Paper ℕ). p .figures) e, call .1 .1)))
 
 same-length-2 : tie.Need-same-length-2
 same-length-2 c = search needs
 
 returns-2 : tie.Need-returns-2
 returns-2 c = let call = c .before .before .before .before .before .find-defects .ensures in
-    let e = sym (ap foundPaperOf (c .before .refusal .given .1)) ∙ call .1 .0 in
-    (ap (λ (p : Paper). p .number) e, (ap (λ (p : Paper). p .place) e, (ap (λ (p : Paper). p .count) e, call .1 .1)))
+    let e = sym (ap findPaperOf (c .before .refusal .given .1)) ∙ call .1 .0 in
+    (ap (λ (p : Paper ℕ). p .number) e, (ap (λ (p : Paper ℕ). p .place) e, (ap (λ (p : Paper ℕ). p .figures) e, call .1 .1)))
 
 pub tip-find-defects-spec : {M : Type 1} → statement M
 tip-find-defects-spec =

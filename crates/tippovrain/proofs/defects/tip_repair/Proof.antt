@@ -1,8 +1,8 @@
 -- `tip_repair` is right because it hands out the paper's numbers of the answer, each in its place.
 use mathlib.Core.Path.{sym, ap, _∙_}
 use borrow.Author.Needs.{needs}
-use Rattle.sites.specs.Paper.{Paper}
-use Rattle.sites.specs.Repair.{filledPaperOf}
+use Rattle.verdict.specs.Answer.{Paper}
+use Rattle.sites.specs.Repair.{repairPaperOf}
 use Rattle.tippovrain.proofs.defects.tip_repair.Statement.{statement}
 use Rattle.tippovrain.proofs.defects.tip_repair.Tie as tie
 
@@ -23,8 +23,8 @@ same-length-2 c = search needs
 
 returns : tie.Need-returns
 returns c = let call = c .before .before .before .before .before .before .before .repair .ensures in
-    let e = sym (ap filledPaperOf (c .before .sites .given .1)) ∙ call .1 .0 in
-    (ap (λ (p : Paper). p .number) e, (ap (λ (p : Paper). p .place) e, (ap (λ (p : Paper). p .count) e, call .1 .1)))
+    let e = sym (ap repairPaperOf (c .before .sites .given .1)) ∙ call .1 .0 in
+    (ap (λ (p : Paper ℕ). p .number) e, (ap (λ (p : Paper ℕ). p .place) e, (ap (λ (p : Paper ℕ). p .figures) e, call .1 .1)))
 
 same-length-3 : tie.Need-same-length-3
 same-length-3 c = search needs
@@ -34,8 +34,8 @@ same-length-4 c = search needs
 
 returns-2 : tie.Need-returns-2
 returns-2 c = let call = c .before .before .before .before .before .before .before .repair .ensures in
-    let e = sym (ap filledPaperOf (c .before .refusal .given .1)) ∙ call .1 .0 in
-    (ap (λ (p : Paper). p .number) e, (ap (λ (p : Paper). p .place) e, (ap (λ (p : Paper). p .count) e, call .1 .1)))
+    let e = sym (ap repairPaperOf (c .before .refusal .given .1)) ∙ call .1 .0 in
+    (ap (λ (p : Paper ℕ). p .number) e, (ap (λ (p : Paper ℕ). p .place) e, (ap (λ (p : Paper ℕ). p .figures) e, call .1 .1)))
 
 pub tip-repair-spec : {M : Type 1} → statement M
 tip-repair-spec =

@@ -1,7 +1,8 @@
 -- `tip_pair_variance` is right because it hands out the paper's numbers of the answer, each in its place.
 use mathlib.Core.Path.{sym, ap, _∙_}
 use borrow.Author.Needs.{needs}
-use Rattle.pair.specs.Answers.{VariancePaper, variancePaperOf}
+use Rattle.verdict.specs.Answer.{Paper}
+use Rattle.pair.specs.Answers.{VarianceFigures, variancePaperOf}
 use Rattle.tippovrain.proofs.pairs.tip_pair_variance.Statement.{statement}
 use Rattle.tippovrain.proofs.pairs.tip_pair_variance.Tie as tie
 
@@ -16,11 +17,11 @@ enum-known-refusal c = search needs
 
 returns : tie.Need-returns
 returns c = let e = sym (ap variancePaperOf (c .before .numerator .given .1)) ∙ c .before .before .before .pair-variance .ensures .1 in
-    (ap (λ (p : VariancePaper). p .number) e, (ap (λ (p : VariancePaper). p .place) e, (ap (λ (p : VariancePaper). p .p) e, (ap (λ (p : VariancePaper). p .q) e, ap (λ (p : VariancePaper). p .variance) e))))
+    (ap (λ (p : Paper VarianceFigures). p .number) e, (ap (λ (p : Paper VarianceFigures). p .place) e, (ap (λ (p : Paper VarianceFigures). p .figures .p) e, (ap (λ (p : Paper VarianceFigures). p .figures .q) e, ap (λ (p : Paper VarianceFigures). p .figures .variance) e))))
 
 returns-2 : tie.Need-returns-2
 returns-2 c = let e = sym (ap variancePaperOf (c .before .refusal .given .1)) ∙ c .before .before .before .pair-variance .ensures .1 in
-    (ap (λ (p : VariancePaper). p .number) e, (ap (λ (p : VariancePaper). p .place) e, (ap (λ (p : VariancePaper). p .p) e, (ap (λ (p : VariancePaper). p .q) e, ap (λ (p : VariancePaper). p .variance) e))))
+    (ap (λ (p : Paper VarianceFigures). p .number) e, (ap (λ (p : Paper VarianceFigures). p .place) e, (ap (λ (p : Paper VarianceFigures). p .figures .p) e, (ap (λ (p : Paper VarianceFigures). p .figures .q) e, ap (λ (p : Paper VarianceFigures). p .figures .variance) e))))
 
 pub tip-pair-variance-spec : {M : Type 1} → statement M
 tip-pair-variance-spec =

@@ -1,7 +1,8 @@
 -- `tip_stack_variance` is right because it hands out the paper's numbers of the answer, each in its place.
 use mathlib.Core.Path.{sym, ap, _∙_}
 use borrow.Author.Needs.{needs}
-use Rattle.stack.specs.Variance.{VariancePaper, variancePaperOf}
+use Rattle.verdict.specs.Answer.{Paper}
+use Rattle.stack.specs.Variance.{VarianceFigures, variancePaperOf}
 use Rattle.tippovrain.proofs.stacks.tip_stack_variance.Statement.{statement}
 use Rattle.tippovrain.proofs.stacks.tip_stack_variance.Tie as tie
 
@@ -16,19 +17,19 @@ enum-known-refusal c = search needs
 
 returns : tie.Need-returns
 returns c = let e = sym (ap variancePaperOf (c .before .over .given .1)) ∙ c .before .before .before .stack-variance .ensures .1 in (
-  ap (λ (p : VariancePaper). p .number) e,
+  ap (λ (p : Paper VarianceFigures). p .number) e,
   (
-    ap (λ (p : VariancePaper). p .place) e,
-    (ap (λ (p : VariancePaper). p .numerator) e, (ap (λ (p : VariancePaper). p .denominator) e, ap (λ (p : VariancePaper). p .variance) e)),
+    ap (λ (p : Paper VarianceFigures). p .place) e,
+    (ap (λ (p : Paper VarianceFigures). p .figures .numerator) e, (ap (λ (p : Paper VarianceFigures). p .figures .denominator) e, ap (λ (p : Paper VarianceFigures). p .figures .variance) e)),
   ),
 )
 
 returns-2 : tie.Need-returns-2
 returns-2 c = let e = sym (ap variancePaperOf (c .before .refusal .given .1)) ∙ c .before .before .before .stack-variance .ensures .1 in (
-  ap (λ (p : VariancePaper). p .number) e,
+  ap (λ (p : Paper VarianceFigures). p .number) e,
   (
-    ap (λ (p : VariancePaper). p .place) e,
-    (ap (λ (p : VariancePaper). p .numerator) e, (ap (λ (p : VariancePaper). p .denominator) e, ap (λ (p : VariancePaper). p .variance) e)),
+    ap (λ (p : Paper VarianceFigures). p .place) e,
+    (ap (λ (p : Paper VarianceFigures). p .figures .numerator) e, (ap (λ (p : Paper VarianceFigures). p .figures .denominator) e, ap (λ (p : Paper VarianceFigures). p .figures .variance) e)),
   ),
 )
 

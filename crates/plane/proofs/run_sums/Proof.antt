@@ -6,10 +6,10 @@ use lib.ListN.{length}
 use borrow.Author.Needs.{needs}
 use Rattle.laws.specs.Sum.{sumIn}
 use Rattle.laws.proofs.Sums.{in-none, in-more}
 use Rattle.window.specs.View.{one, seen}
 use Rattle.window.proofs.Views.{one-is, seen-is}
-use Rattle.window.proofs.run_sums.Statement.{statement}
-use Rattle.window.proofs.run_sums.Tie as tie
+use Rattle.plane.proofs.run_sums.Statement.{statement}
+use Rattle.plane.proofs.run_sums.Tie as tie
 
 abbrev Inv-loop : tie.InvT-loop
 Inv-loop start step first last mask frame count₀ total₀ v₀ count total v = (first ≤ v) × (v ≤ last)

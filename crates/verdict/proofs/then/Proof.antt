@@ -1,8 +1,8 @@
 -- `then` is right because it goes by the same two cases as `⨟`.
 use borrow.Author.Needs.{needs}
-use Rattle.window.specs.Verdict.{_⨟_}
-use Rattle.window.proofs.then.Statement.{statement}
-use Rattle.window.proofs.then.Tie as tie
+use Rattle.verdict.specs.Verdict.{_⨟_}
+use Rattle.verdict.proofs.then.Statement.{statement}
+use Rattle.verdict.proofs.then.Tie as tie
 
 enum-told : tie.Need-enum-told
 enum-told c = search needs

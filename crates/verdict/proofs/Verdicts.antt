@@ -8,10 +8,10 @@ use lib.Dec.{ltb}
 use borrow.Author.Tests.{ltb-true}
 use Rattle.laws.specs.First.{firstTo}
 use Rattle.laws.proofs.Cases.{and-true}
-use Rattle.window.specs.Verdict.{refusal, _⨟_, refuseIf, refuseFirst, numberOf, placeOf}
-use Rattle.window.specs.declared.Refusal.{Refusal}
-use Rattle.window.specs.declared.Verdict.{Verdict}
-use Rattle.window.specs.declared.Verdict.the-variants.{Clear, Refused}
+use Rattle.verdict.specs.Verdict.{refusal, _⨟_, refuseIf, refuseFirst, numberOf, placeOf}
+use Rattle.verdict.specs.declared.Refusal.{Refusal}
+use Rattle.verdict.specs.declared.Verdict.{Verdict}
+use Rattle.verdict.specs.declared.Verdict.the-variants.{Clear, Refused}
 
 -- a verdict is clear or refuses, and never both
 pub not-clear : {r : Refusal} {A : Type 0} → Refused r ≡ Clear → A
@@ -32,6 +32,10 @@ unfolding _⨟_
 then-clear Clear b e = (refl, e)
 then-clear (Refused r) b e = not-clear e
 
+pub clear-then : {a b : Verdict} → a ≡ Clear → b ≡ Clear → a ⨟ b ≡ Clear
+unfolding _⨟_
+clear-then p q = rw (p, q)
+
 pub then-assoc : (a b d : Verdict) → (a ⨟ b) ⨟ d ≡ a ⨟ (b ⨟ d)
 unfolding _⨟_
 then-assoc Clear b d = refl
@@ -47,6 +51,10 @@ pub unless : (k p : ℕ) (b : Bool) → refuseIf k p b ≡ Clear → b ≡ false
 unfolding refuseIf
 unless k p false e = refl
 unless k p true e = not-clear e
+
+pub clear-unless : (k p : ℕ) {b : Bool} → b ≡ false → refuseIf k p b ≡ Clear
+unfolding refuseIf
+clear-unless k p e = rw e
 
 -- a search whose number is not given found nothing
 pub not-given : (k n : ℕ) (test : ℕ → Bool) (v : Verdict) → (numberOf (refuseFirst k n test ⨟ v) ≡ k → ⊥) → refuseFirst k n test ⨟ v ≡ v

@@ -4,11 +4,11 @@ use mathlib.Core.Path.{_≡_, sym, ap₂, _∙_}
 use native.Mathlib.Omega.{arith}
 use lib.ListN.{length}
 use borrow.Author.Needs.{needs}
 use Rattle.window.specs.Judge.{walked}
 use Rattle.window.proofs.Walks.{Whole, walked-some}
-use Rattle.window.proofs.Planes.{sums-told, sums-none}
-use Rattle.window.proofs.box_sums.Statement.{statement}
-use Rattle.window.proofs.box_sums.Tie as tie
+use Rattle.plane.proofs.Planes.{sums-told, sums-none}
+use Rattle.plane.proofs.box_sums.Statement.{statement}
+use Rattle.plane.proofs.box_sums.Tie as tie
 
 abbrev Begun : tie.After-least → tie.Start
 Begun c = c .before .before .before .before .before

@@ -2,11 +2,11 @@
 use Prim.Native.Nat.{_+_, _*_, _≤_}
 use mathlib.Core.Path.{_∙_}
 use native.Mathlib.Omega.{arith}
 use Rattle.window.specs.View.{one, seen}
-use Rattle.window.specs.Plane.{rowParity, columnParity}
-use Rattle.window.proofs.Planes.{site-in, stepped, stepped-down, start-low, by-rows, by-columns}
-use Rattle.window.proofs.inner_sums.Statement.{statement}
-use Rattle.window.proofs.inner_sums.Tie as tie
+use Rattle.plane.specs.Plane.{rowParity, columnParity}
+use Rattle.plane.proofs.Planes.{site-in, stepped, stepped-down, start-low, by-rows, by-columns}
+use Rattle.plane.proofs.inner_sums.Statement.{statement}
+use Rattle.plane.proofs.inner_sums.Tie as tie
 
 low : (c : tie.After-shared-slice-known2)
     → rowParity (c .before .before .args .plane) * c .before .before .args .width + columnParity (c .before .before .args .plane) ≤ 129

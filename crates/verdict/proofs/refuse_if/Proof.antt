@@ -1,7 +1,7 @@
 -- `refuse_if` is right because its branch is the definition's.
-use Rattle.window.specs.Verdict.{refuseIf}
-use Rattle.window.proofs.refuse_if.Statement.{statement}
-use Rattle.window.proofs.refuse_if.Tie as tie
+use Rattle.verdict.specs.Verdict.{refuseIf}
+use Rattle.verdict.proofs.refuse_if.Statement.{statement}
+use Rattle.verdict.proofs.refuse_if.Tie as tie
 
 returns : tie.Need-returns
 unfolding refuseIf

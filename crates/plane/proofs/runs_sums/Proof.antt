@@ -6,9 +6,9 @@ use native.Mathlib.Omega.{arith}
 use borrow.Author.Needs.{needs}
 use Rattle.laws.specs.Sum.{sumBox}
 use Rattle.laws.proofs.Sums.{box-none, box-more}
 use Rattle.window.specs.View.{one, seen}
-use Rattle.window.proofs.runs_sums.Statement.{statement}
-use Rattle.window.proofs.runs_sums.Tie as tie
+use Rattle.plane.proofs.runs_sums.Statement.{statement}
+use Rattle.plane.proofs.runs_sums.Tie as tie
 
 abbrev Inv-loop : tie.InvT-loop
 Inv-loop start stride step top bottom first last mask frame count₀ total₀ u₀ count total u = (top ≤ u) × (u ≤ bottom)

@@ -5,10 +5,10 @@ use mathlib.Core.List.{List}
 use lib.Dec.{eqb}
 use lib.ListN.{length}
 use Rattle.laws.specs.Sum.{sumBox}
 use Rattle.window.specs.View.{seen, one}
 use Rattle.window.specs.Judge.{walked}
-use Rattle.window.specs.declared.PlaneBox.{PlaneBox}
-use Rattle.window.specs.declared.Sums.{Sums}
+use Rattle.plane.specs.declared.PlaneBox.{PlaneBox}
+use Rattle.plane.specs.declared.Sums.{Sums}
 
 -- the planes of row and column parity (0,0), (0,1), (1,0), (1,1) are 0, 1, 2, 3
 abbrev pub rowParity : ℕ → ℕ

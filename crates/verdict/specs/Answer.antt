@@ -1,0 +1,32 @@
+-- Document 01, "Refusal numbers": what a verdict makes of a call. This is the frame of every call: its own crate says the tests and the figures.
+use Prim.Native.Nat.{ℕ}
+use Rattle.verdict.specs.Verdict.{numberOf, placeOf, ifClear}
+use Rattle.verdict.specs.declared.Refusal.{Refusal}
+use Rattle.verdict.specs.declared.Verdict.{Verdict}
+use Rattle.verdict.specs.declared.Verdict.the-variants.{Clear, Refused}
+
+-- the answer: the accepted one where nothing is refused, the case of the refusal where something is
+abbrev pub answerOf : {A : Type 0} → Verdict → A → (Refusal → A) → A
+answerOf Clear accepted refused = accepted
+answerOf (Refused r) accepted refused = refused r
+
+-- the paper's numbers of a call, of which F are its figures
+pub record Paper (F : Type 0) : Type 0 where
+  pub number : ℕ
+  pub place : ℕ
+  pub figures : F
+
+-- of an answer, by its two cases: 0, 0 and the figures; the refusal's number and place, and zeros
+abbrev pub acceptedPaper : {F : Type 0} → F → Paper F
+acceptedPaper figures = record { number = 0; place = 0; figures = figures }
+
+abbrev pub refusedPaper : {F : Type 0} → Refusal → F → Paper F
+refusedPaper r zeros = record { number = r .number; place = r .place; figures = zeros }
+
+-- for all inputs
+abbrev pub paperFor : {F : Type 0} → Verdict → F → F → Paper F
+paperFor v figures zeros = record { number = numberOf v; place = placeOf v; figures = ifClear v figures zeros }
+
+-- the figures of a call that answers no number but a refusal's
+pub data NoFigures : Type 0 where
+  noFigures : NoFigures

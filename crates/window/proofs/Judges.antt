@@ -1,0 +1,124 @@
+-- The refusals that calls share: what passes 1 to 5, or 1 to 6, what is judged after them, and the table that they are.
+use Prim.Native.Nat.{ℕ, min, _<_, _≤_}
+use mathlib.Core.Bool.{false}
+use mathlib.Core.List.{List, [], _∷_, _++_}
+use mathlib.Core.Path.{_≡_, ap, ap₂, _∙_}
+use lib.ListN.{length, getD}
+use Rattle.window.specs.Shape.{badSides, badScale, sitesOf}
+use Rattle.window.specs.View.{badCode, above, seen}
+use Rattle.window.specs.Judge.{shapeOf, otherThan, lengthOf, codesOf, samplesOf, maskVerdict, frameVerdict, walked}
+use Rattle.verdict.specs.Verdict.{_⨟_, refuseFirst}
+use Rattle.verdict.specs.declared.Verdict.{Verdict}
+use Rattle.verdict.specs.declared.Verdict.the-variants.{Clear}
+use Rattle.verdict.proofs.Verdicts.{Test, Tabled, test, testFirst, tabled, tabled-then, then-same, then-clear, clear-then}
+use Rattle.window.proofs.Chains.{shape-clear, clear-shape, shape-tabled, length-clear, clear-length, codes-clear, clear-codes, samples-clear, clear-samples, measured, codes-whole, samples-whole}
+
+-- a mask in a window that 1 to 5 do not refuse
+pub record Masked (w h full : ℕ) (mask : List ℕ) : Type 0 where
+  pub legal : badSides w h ≡ false
+  pub scaled : badScale full ≡ false
+  pub masked : length mask ≡ sitesOf w h
+  pub codes : (i : ℕ) → i < sitesOf w h → getD mask i 0 ≤ 3
+
+-- and a frame behind it that 6 does not refuse
+pub record Framed (w h full : ℕ) (mask frame : List ℕ) : Type 0 where
+  pub of : Masked w h full mask
+  pub framed : length frame ≡ sitesOf w h
+  pub range : (i : ℕ) → i < sitesOf w h → seen mask frame i ≤ full
+
+module _ (w h full : ℕ) (mask : List ℕ) where
+  module _ {numbers lengths : Verdict} where
+    -- what 1 to 5 let pass, with the call's own tests among them
+    pub mask-clear : maskVerdict w h full numbers mask lengths ≡ Clear → (numbers ≡ Clear) × (lengths ≡ Clear) × Masked w h full mask
+    unfolding maskVerdict
+    mask-clear e =
+        let shape = then-clear _ _ e in
+        let handed = then-clear _ _ (shape .1) in
+        let masked = then-clear _ _ (handed .1) in
+        let lent = then-clear _ _ (masked .1) in
+        let legal = shape-clear w h full (shape .0) in
+        (handed .0, lent .0, record { legal = legal .0; scaled = legal .1; masked = length-clear (sitesOf w h) (length mask) (masked .0); codes = codes-clear (sitesOf w h) mask (lent .1) })
+
+    pub clear-mask : Masked w h full mask → numbers ≡ Clear → lengths ≡ Clear → maskVerdict w h full numbers mask lengths ≡ Clear
+    unfolding maskVerdict
+    clear-mask m n l =
+        clear-then (clear-shape w h full (m .legal) (m .scaled))
+        (clear-then n
+        (clear-then (clear-length (sitesOf w h) (length mask) (m .masked))
+        (clear-then l (clear-codes (sitesOf w h) mask (m .codes)))))
+
+    -- 5 is asked of the whole window: 4 comes first
+    pub mask-judged : shapeOf w h full ⨟ numbers ⨟ lengthOf w h (length mask) ⨟ lengths ⨟ codesOf (walked w h (length mask)) mask
+        ≡ maskVerdict w h full numbers mask lengths
+    unfolding maskVerdict
+    mask-judged =
+        then-same (shapeOf w h full) (λ _. then-same numbers (λ _.
+        measured (sitesOf w h) (length mask) (λ e. then-same lengths (λ _. codes-whole w h mask e))))
+
+  -- what `judge_mask` answers of verdicts that are known
+  pub mask-of : {r n l n′ l′ : Verdict} → r ≡ maskVerdict w h full n mask l → n ≡ n′ → l ≡ l′ → r ≡ maskVerdict w h full n′ mask l′
+  mask-of e p q = e ∙ ap₂ (λ (n l : Verdict). maskVerdict w h full n mask l) p q
+
+  -- the call's own 4 is judged only of legal sides
+  pub mask-lent : {n l l′ : Verdict} → (badSides w h ≡ false → l ≡ l′) → maskVerdict w h full n mask l ≡ maskVerdict w h full n mask l′
+  unfolding maskVerdict
+  mask-lent {n} f =
+      then-same (shapeOf w h full)
+      (λ e. ap (λ (v : Verdict). n ⨟ lengthOf w h (length mask) ⨟ v ⨟ codesOf (sitesOf w h) mask) (f (shape-clear w h full e .0)))
+
+  -- the table of 1 to 5, the call's own tests in their places
+  abbrev pub mask-tests : List Test → List Test → List Test
+  mask-tests numbers lengths =
+      test 1 0 (badSides w h)
+      ∷ test 2 0 (badScale full)
+      ∷ (numbers ++ (test 4 0 (otherThan (sitesOf w h) (length mask)) ∷ (lengths ++ (testFirst 5 (sitesOf w h) (badCode mask) ∷ []))))
+
+  pub mask-tabled : {numbers lengths : Verdict} {ns ls : List Test} → Tabled numbers ns → Tabled lengths ls
+      → Tabled (maskVerdict w h full numbers mask lengths) (mask-tests ns ls)
+  unfolding maskVerdict refuseFirst
+  mask-tabled n l = tabled-then (shape-tabled w h full) (tabled-then n (tabled-then (tabled _ []) (tabled-then l (tabled _ []))))
+
+module _ (w h full : ℕ) (mask frame : List ℕ) where
+  module _ {numbers lengths : Verdict} where
+    -- and of a frame, 1 to 6
+    pub frame-clear : frameVerdict w h full numbers mask frame lengths ≡ Clear → (numbers ≡ Clear) × (lengths ≡ Clear) × Framed w h full mask frame
+    unfolding frameVerdict
+    frame-clear e =
+        let all = then-clear _ _ e in
+        let masked = mask-clear w h full mask (all .0) in
+        let lent = then-clear _ _ (masked .1) in
+        (masked .0, lent .1, record { of = masked .2; framed = length-clear (sitesOf w h) (length frame) (lent .0); range = samples-clear (sitesOf w h) full (seen mask frame) (all .1) })
+
+    pub clear-frame : Framed w h full mask frame → numbers ≡ Clear → lengths ≡ Clear → frameVerdict w h full numbers mask frame lengths ≡ Clear
+    unfolding frameVerdict
+    clear-frame f n l =
+        clear-then (clear-mask w h full mask (f .of) n (clear-then (clear-length (sitesOf w h) (length frame) (f .framed)) l))
+        (clear-samples (sitesOf w h) full (seen mask frame) (f .range))
+
+    pub frame-judged : maskVerdict w h full numbers mask (lengthOf w h (length frame) ⨟ lengths)
+        ⨟ samplesOf (min (walked w h (length mask)) (walked w h (length frame))) full (seen mask frame)
+        ≡ frameVerdict w h full numbers mask frame lengths
+    unfolding frameVerdict
+    frame-judged =
+        then-same (maskVerdict w h full numbers mask (lengthOf w h (length frame) ⨟ lengths)) (λ e.
+        let masked = mask-clear w h full mask e in
+        samples-whole w h full mask frame (masked .2 .masked) (length-clear (sitesOf w h) (length frame) (then-clear _ _ (masked .1) .0)))
+
+  pub frame-of : {r n l n′ l′ : Verdict} → r ≡ frameVerdict w h full n mask frame l → n ≡ n′ → l ≡ l′ → r ≡ frameVerdict w h full n′ mask frame l′
+  frame-of e p q = e ∙ ap₂ (λ (n l : Verdict). frameVerdict w h full n mask frame l) p q
+
+  pub frame-lent : {n l l′ : Verdict} → (badSides w h ≡ false → l ≡ l′) → frameVerdict w h full n mask frame l ≡ frameVerdict w h full n mask frame l′
+  unfolding frameVerdict
+  frame-lent f =
+      ap (λ (v : Verdict). v ⨟ samplesOf (sitesOf w h) full (seen mask frame))
+      (mask-lent w h full mask (λ legal. ap (λ (v : Verdict). lengthOf w h (length frame) ⨟ v) (f legal)))
+
+  abbrev pub frame-tests : List Test → List Test → List Test
+  frame-tests numbers lengths =
+      mask-tests w h full mask numbers (test 4 0 (otherThan (sitesOf w h) (length frame)) ∷ lengths)
+      ++ (testFirst 6 (sitesOf w h) (above full (seen mask frame)) ∷ [])
+
+  pub frame-tabled : {numbers lengths : Verdict} {ns ls : List Test} → Tabled numbers ns → Tabled lengths ls
+      → Tabled (frameVerdict w h full numbers mask frame lengths) (frame-tests ns ls)
+  unfolding frameVerdict refuseFirst
+  frame-tabled n l = tabled-then (mask-tabled w h full mask n (tabled-then (tabled _ []) l)) (tabled _ [])
