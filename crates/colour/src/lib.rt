@@ -6,8 +6,8 @@ ghost use Rattle.colour.specs.Bayer.{mosaicOf, centresOf};
 ghost use Rattle.colour.specs.Centre.{centreOf, tooSmall, someEmpty};
 ghost use Rattle.colour.specs.Colour.{aboveBlack, notAbove, ratioOf, lentVerdict, centresVerdict, colourAnswer, paperOf, colourPaper};
 use plane::PlaneBox;
-use verdict::Refusal;
 use plane::Sums;
+use verdict::Refusal;
 use verdict::Verdict;
 
 // A ratio over Gr, unreduced.

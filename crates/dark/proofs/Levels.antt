@@ -1,5 +1,5 @@
 -- The verdict, and what it makes of the answer.
-use Prim.Native.Nat.{ℕ, min, _≤_, _<_}
+use Prim.Native.Nat.{ℕ, _≤_, _<_}
 use mathlib.Core.List.{List, [], _∷_}
 use mathlib.Core.Path.{_≡_, refl}
 use native.Mathlib.Omega.{arith}
@@ -14,7 +14,6 @@ use Rattle.window.specs.View.{badCode, above, seen, one}
 use Rattle.verdict.specs.Verdict.{_⨟_, refuseIf}
 use Rattle.window.specs.Judge.{otherThan, frameVerdict, walked}
 use Rattle.verdict.specs.declared.Refusal.{Refusal}
-use Rattle.verdict.specs.declared.Verdict.{Verdict}
 use Rattle.verdict.specs.declared.Verdict.the-variants as verdict
 use Rattle.window.proofs.Sides.{scale, sites-few}
 use Rattle.verdict.proofs.Verdicts.{Test, Tabled, test, testFirst, tabled, tabled-none, tabled-then, then-same, then-clear, unless}

@@ -9,8 +9,8 @@ ghost use Rattle.lines.specs.Lines.{rows, columns, before, after, pooled
 ghost use Rattle.lines.specs.Walk.{lined};
 ghost use Rattle.lines.specs.Marks.{linesVerdict, linesAnswer, paperOf, linesPaper, linesBuffer};
 use plane::PlaneBox;
-use verdict::Refusal;
 use plane::Sums;
+use verdict::Refusal;
 use verdict::Verdict;
 
 pub enum Marked {

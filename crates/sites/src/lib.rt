@@ -10,8 +10,8 @@ ghost use Rattle.sites.specs.Near.{around, nearSum};
 ghost use Rattle.sites.specs.Find.{usedThreshold, far, foundAt, marked, markedAt, foundCount, findVerdict, findAnswer, findPaperOf, findPaper, findMask};
 ghost use Rattle.sites.specs.Repair.{meanOf, filledAt, sampleAfter, codeAfter, filledCount, repairVerdict, repairAnswer, repairPaperOf, repairPaper, repairFrame, repairMask};
 use plane::PlaneBox;
-use verdict::Refusal;
 use plane::Sums;
+use verdict::Refusal;
 use verdict::Verdict;
 
 // Document 01: "0 stands for the default, 28".

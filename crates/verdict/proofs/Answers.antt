@@ -5,15 +5,15 @@ use Rattle.verdict.specs.declared.Refusal.{Refusal}
 use Rattle.verdict.specs.declared.Verdict.{Verdict}
 use Rattle.verdict.specs.declared.Verdict.the-variants.{Clear, Refused}
 
-module _ {A F : Type 0} {accepted : A} {refusing : Refusal → A} where
-  -- an answer's numbers, by its two cases, are the verdict's
-  pub paper-told : (paperOf : A → Paper F) {figures zeros : F} (v : Verdict)
-      → paperOf accepted ≡ acceptedPaper figures → ((r : Refusal) → paperOf (refusing r) ≡ refusedPaper r zeros)
-      → paperOf (answerOf v accepted refusing) ≡ paperFor v figures zeros
-  paper-told paperOf Clear a f = a
-  paper-told paperOf (Refused r) a f = f r
+-- an answer's numbers, by its two cases, are the verdict's
+pub paper-told : {A F : Type 0} (paperOf : A → Paper F) {accepted : A} {refusing : Refusal → A} {figures zeros : F} (v : Verdict)
+    → paperOf accepted ≡ acceptedPaper figures → ((r : Refusal) → paperOf (refusing r) ≡ refusedPaper r zeros)
+    → paperOf (answerOf v accepted refusing) ≡ paperFor v figures zeros
+paper-told paperOf Clear a f = a
+paper-told paperOf (Refused r) a f = f r
 
-  -- an answer that is no refusal was accepted
-  pub was-accepted : (v : Verdict) {x : A} → ((r : Refusal) → refusing r ≡ x → ⊥) → answerOf v accepted refusing ≡ x → (v ≡ Clear) × (accepted ≡ x)
-  was-accepted Clear other e = (refl, e)
-  was-accepted (Refused r) other e = absurd (other r e)
+-- an answer that is no refusal was accepted
+pub was-accepted : {A : Type 0} (v : Verdict) {accepted x : A} {refusing : Refusal → A} → ((r : Refusal) → refusing r ≡ x → ⊥)
+    → answerOf v accepted refusing ≡ x → (v ≡ Clear) × (accepted ≡ x)
+was-accepted Clear other e = (refl, e)
+was-accepted (Refused r) other e = absurd (other r e)

@@ -15,7 +15,7 @@ use Rattle.verdict.specs.declared.Verdict.the-variants.{Clear}
 use Rattle.verdict.proofs.Verdicts.{Tabled, test, tabled, then-same, then-clear, clear-then, unless, clear-unless}
 use Rattle.window.specs.Shape.{badSides, badScale, sitesOf}
 use Rattle.window.specs.View.{badCode, above, seen}
-use Rattle.window.specs.Judge.{shapeOf, otherThan, lengthOf, codesOf, samplesOf, walked}
+use Rattle.window.specs.Judge.{shapeOf, otherThan, codesOf, samplesOf, walked}
 use Rattle.window.proofs.Walks.{walked-whole}
 
 -- 1 and 2

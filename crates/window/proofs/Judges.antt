@@ -47,22 +47,23 @@ module _ (w h full : ℕ) (mask : List ℕ) where
         (clear-then (clear-length (sitesOf w h) (length mask) (m .masked))
         (clear-then l (clear-codes (sitesOf w h) mask (m .codes)))))
 
-    -- 5 is asked of the whole window: 4 comes first
-    pub mask-judged : shapeOf w h full ⨟ numbers ⨟ lengthOf w h (length mask) ⨟ lengths ⨟ codesOf (walked w h (length mask)) mask
-        ≡ maskVerdict w h full numbers mask lengths
-    unfolding maskVerdict
-    mask-judged =
-        then-same (shapeOf w h full) (λ _. then-same numbers (λ _.
-        measured (sitesOf w h) (length mask) (λ e. then-same lengths (λ _. codes-whole w h mask e))))
+  -- 5 is asked of the whole window: 4 comes first
+  pub mask-judged : (numbers lengths : Verdict)
+      → shapeOf w h full ⨟ numbers ⨟ lengthOf w h (length mask) ⨟ lengths ⨟ codesOf (walked w h (length mask)) mask
+      ≡ maskVerdict w h full numbers mask lengths
+  unfolding maskVerdict
+  mask-judged numbers lengths =
+      then-same (shapeOf w h full) (λ _. then-same numbers (λ _.
+      measured (sitesOf w h) (length mask) (λ e. then-same lengths (λ _. codes-whole w h mask e))))
 
   -- what `judge_mask` answers of verdicts that are known
   pub mask-of : {r n l n′ l′ : Verdict} → r ≡ maskVerdict w h full n mask l → n ≡ n′ → l ≡ l′ → r ≡ maskVerdict w h full n′ mask l′
   mask-of e p q = e ∙ ap₂ (λ (n l : Verdict). maskVerdict w h full n mask l) p q
 
   -- the call's own 4 is judged only of legal sides
-  pub mask-lent : {n l l′ : Verdict} → (badSides w h ≡ false → l ≡ l′) → maskVerdict w h full n mask l ≡ maskVerdict w h full n mask l′
+  pub mask-lent : (n : Verdict) {l l′ : Verdict} → (badSides w h ≡ false → l ≡ l′) → maskVerdict w h full n mask l ≡ maskVerdict w h full n mask l′
   unfolding maskVerdict
-  mask-lent {n} f =
+  mask-lent n f =
       then-same (shapeOf w h full)
       (λ e. ap (λ (v : Verdict). n ⨟ lengthOf w h (length mask) ⨟ v ⨟ codesOf (sitesOf w h) mask) (f (shape-clear w h full e .0)))
 
@@ -95,23 +96,24 @@ module _ (w h full : ℕ) (mask frame : List ℕ) where
         clear-then (clear-mask w h full mask (f .of) n (clear-then (clear-length (sitesOf w h) (length frame) (f .framed)) l))
         (clear-samples (sitesOf w h) full (seen mask frame) (f .range))
 
-    pub frame-judged : maskVerdict w h full numbers mask (lengthOf w h (length frame) ⨟ lengths)
-        ⨟ samplesOf (min (walked w h (length mask)) (walked w h (length frame))) full (seen mask frame)
-        ≡ frameVerdict w h full numbers mask frame lengths
-    unfolding frameVerdict
-    frame-judged =
-        then-same (maskVerdict w h full numbers mask (lengthOf w h (length frame) ⨟ lengths)) (λ e.
-        let masked = mask-clear w h full mask e in
-        samples-whole w h full mask frame (masked .2 .masked) (length-clear (sitesOf w h) (length frame) (then-clear _ _ (masked .1) .0)))
+  pub frame-judged : (numbers lengths : Verdict)
+      → maskVerdict w h full numbers mask (lengthOf w h (length frame) ⨟ lengths)
+      ⨟ samplesOf (min (walked w h (length mask)) (walked w h (length frame))) full (seen mask frame)
+      ≡ frameVerdict w h full numbers mask frame lengths
+  unfolding frameVerdict
+  frame-judged numbers lengths =
+      then-same (maskVerdict w h full numbers mask (lengthOf w h (length frame) ⨟ lengths)) (λ e.
+      let masked = mask-clear w h full mask e in
+      samples-whole w h full mask frame (masked .2 .masked) (length-clear (sitesOf w h) (length frame) (then-clear _ _ (masked .1) .0)))
 
   pub frame-of : {r n l n′ l′ : Verdict} → r ≡ frameVerdict w h full n mask frame l → n ≡ n′ → l ≡ l′ → r ≡ frameVerdict w h full n′ mask frame l′
   frame-of e p q = e ∙ ap₂ (λ (n l : Verdict). frameVerdict w h full n mask frame l) p q
 
-  pub frame-lent : {n l l′ : Verdict} → (badSides w h ≡ false → l ≡ l′) → frameVerdict w h full n mask frame l ≡ frameVerdict w h full n mask frame l′
+  pub frame-lent : (n : Verdict) {l l′ : Verdict} → (badSides w h ≡ false → l ≡ l′) → frameVerdict w h full n mask frame l ≡ frameVerdict w h full n mask frame l′
   unfolding frameVerdict
-  frame-lent f =
+  frame-lent n f =
       ap (λ (v : Verdict). v ⨟ samplesOf (sitesOf w h) full (seen mask frame))
-      (mask-lent w h full mask (λ legal. ap (λ (v : Verdict). lengthOf w h (length frame) ⨟ v) (f legal)))
+      (mask-lent w h full mask n (λ legal. ap (λ (v : Verdict). lengthOf w h (length frame) ⨟ v) (f legal)))
 
   abbrev pub frame-tests : List Test → List Test → List Test
   frame-tests numbers lengths =

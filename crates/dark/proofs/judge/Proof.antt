@@ -23,7 +23,7 @@ returns : tie.Need-returns
 returns c = let few = c .before in
     let lent = few .before in
     let black = lent .before in
-    let begun = black .before in
+    let begun = black .before .before .before in
     then-of (c .then .ensures) (frame-of _ _ _ _ _ (lent .judge-frame .ensures) (black .refuse-if .ensures) refl) (few .refuse-if2 .ensures)
     ∙ judged _ _ _ _ _ _ _ (begun .pre)
 
