@@ -8,12 +8,11 @@ use Rattle.laws.specs.Table.{tabulate}
 use Rattle.laws.proofs.Tables.{getD-tabulate}
 use Rattle.laws.proofs.Sole.{Sole, sole}
 use Rattle.window.specs.Shape.{badSide, badSides, sitesOf}
-use Rattle.verdict.specs.Verdict.{refusal, _⨟_, refuseIf, numberOf, placeOf}
-use Rattle.verdict.specs.declared.Verdict.{Verdict}
-use Rattle.verdict.specs.declared.Verdict.the-variants as verdict
+use Rattle.verdict.specs.Verdict.{_⨟_, refuseIf}
 use Rattle.verdict.proofs.Verdicts.{Tabled, Refuses, refuses}
+use Rattle.verdict.proofs.Answers.{paper-told}
 use Rattle.raw.specs.Packed.{sample10}
-use Rattle.raw.specs.Unpack.{unpackVerdict, answered, unpackAnswer, paperOf, unpackPaper, unpackBuffer}
+use Rattle.raw.specs.Unpack.{unpackVerdict, unpackAnswer, paperOf, unpackPaper, unpackBuffer}
 use Rattle.raw.specs.declared.Unpacked.the-variants.{Done}
 use Rattle.raw.proofs.Samples.{sample-below, sample-occurs}
 use Rattle.raw.proofs.Unpacks.{tests, table, accepted-is, done-clear}
@@ -26,11 +25,7 @@ module _ (w h : ℕ) (bytes out : List ℕ) where
   -- the paper's numbers are those of the answer
   pub paper-is : paperOf (unpackAnswer w h (length bytes) (length out)) ≡ unpackPaper w h (length bytes) (length out)
   unfolding unpackAnswer unpackPaper
-  paper-is = by (unpackVerdict w h (length bytes) (length out))
-    where
-      by : (v : Verdict) → paperOf (answered v) ≡ refusal (numberOf v) (placeOf v)
-      by verdict.Clear = refl
-      by (verdict.Refused r) = refl
+  paper-is = paper-told paperOf (unpackVerdict w h (length bytes) (length out)) refl (λ r. refl)
 
   -- given: 1 and 4 exactly as document 01 tables them, in that order (`tests` has the table)
   pub given : Tabled (unpackVerdict w h (length bytes) (length out)) (tests w h (length bytes) (length out))

@@ -7,16 +7,15 @@ use native.Mathlib.Omega.{arith}
 use lib.ListN.{length}
 use Rattle.laws.specs.Table.{tabulate}
 use Rattle.window.specs.Shape.{badSides, sitesOf}
-use Rattle.verdict.specs.Verdict.{refusal}
 use Rattle.window.specs.Judge.{otherThan}
 use Rattle.verdict.specs.declared.Refusal.{Refusal}
-use Rattle.verdict.specs.declared.Verdict.{Verdict}
 use Rattle.verdict.specs.declared.Verdict.the-variants as verdict
 use Rattle.window.proofs.Sides.{Sides, sides}
 use Rattle.verdict.proofs.Verdicts.{Test, Tabled, test, tabled, passed-head, passed-tail}
+use Rattle.verdict.proofs.Answers.{was-accepted}
 use Rattle.window.proofs.Chains.{same-length}
 use Rattle.raw.specs.Packed.{sample10, length10}
-use Rattle.raw.specs.Unpack.{unpackVerdict, answered, unpackAnswer, unpackPaper, unpackBuffer}
+use Rattle.raw.specs.Unpack.{unpackVerdict, unpackAnswer, paperOf, unpackPaper, unpackBuffer}
 use Rattle.raw.specs.declared.Unpacked.the-variants.{Done, Refused}
 
 -- what an accepted call's numbers are
@@ -60,21 +59,17 @@ module _ (w h bytes out : ℕ) where
 
   pub done-clear : unpackAnswer w h bytes out ≡ Done → unpackVerdict w h bytes out ≡ verdict.Clear
   unfolding unpackAnswer
-  done-clear e = by (unpackVerdict w h bytes out) refl e
-    where
-      by : (v : Verdict) → unpackVerdict w h bytes out ≡ v → answered v ≡ Done → v ≡ verdict.Clear
-      by verdict.Clear p q = refl
-      by (verdict.Refused r) p q = let z : _≡_ {A = ℕ} 0 1 = cc in absurd (omega arith)
+  done-clear e = was-accepted (unpackVerdict w h bytes out) (λ r f. let z : _≡_ {A = ℕ} 0 1 = cc in absurd (omega arith)) e .0
 
 module _ (w h : ℕ) (bytes out : List ℕ) where
   pub refused-is : (r : Refusal) → unpackVerdict w h (length bytes) (length out) ≡ verdict.Refused r
       → (Refused r ≡ unpackAnswer w h (length bytes) (length out))
-      × ((r ≡ unpackPaper w h (length bytes) (length out)) × (out ≡ unpackBuffer w h bytes out))
+      × ((paperOf (Refused r) ≡ unpackPaper w h (length bytes) (length out)) × (out ≡ unpackBuffer w h bytes out))
   unfolding unpackAnswer unpackPaper unpackBuffer
   refused-is r e = rw e (refl, (refl, refl))
 
   pub accepted-is : unpackVerdict w h (length bytes) (length out) ≡ verdict.Clear
       → (Done ≡ unpackAnswer w h (length bytes) (length out))
-      × ((refusal 0 0 ≡ unpackPaper w h (length bytes) (length out)) × (tabulate (length out) (sample10 bytes) ≡ unpackBuffer w h bytes out))
+      × ((paperOf Done ≡ unpackPaper w h (length bytes) (length out)) × (tabulate (length out) (sample10 bytes) ≡ unpackBuffer w h bytes out))
   unfolding unpackAnswer unpackPaper unpackBuffer
   accepted-is e = rw e (refl, (refl, refl))

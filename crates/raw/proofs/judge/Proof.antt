@@ -19,8 +19,8 @@ mul-refuse-if c = search needs
 refuse-if-requires-2 : tie.Need-refuse-if-requires-2
 refuse-if-requires-2 c κs = search needs
 
-refuse-if-requires-3 : tie.Need-refuse-if-requires-3
-refuse-if-requires-3 c κs = search needs
+length-requires : tie.Need-length-requires
+length-requires c κs = search needs
 
 then-requires : tie.Need-then-requires
 then-requires c κs = search needs
@@ -41,7 +41,7 @@ judge-spec =
     refuse-if-requires
     mul-refuse-if
     refuse-if-requires-2
-    refuse-if-requires-3
+    length-requires
     then-requires
     then-requires-2
     returns)
