@@ -7,10 +7,7 @@ use lib.IntN.{pos, natAbs, _*ℤ_}
 use Rattle.laws.proofs.Cases.{times-le}
 use Rattle.laws.proofs.Signeds.{⊖-eq, ⊖-ge, ⊖-scale, ⊖-within}
 use Rattle.plane.specs.declared.Sums.{Sums}
-use Rattle.verdict.specs.declared.Verdict.{Verdict}
-use Rattle.verdict.specs.declared.Verdict.the-variants as verdict
-use Rattle.colour.specs.Colour.{aboveBlack, ratioOf, answered}
-use Rattle.colour.specs.declared.Centres.{Centres}
+use Rattle.colour.specs.Colour.{aboveBlack, ratioOf}
 use Rattle.colour.specs.declared.Ratio.{Ratio}
 use Rattle.colour.proofs.Judged.{Lit, top}
 
@@ -60,12 +57,3 @@ pub same-ratio : (black d : ℕ) (colour gr tint green : Sums)
 unfolding ratioOf
 same-ratio black d colour gr tint green c t n s =
     rw (same-total black d colour tint c t, same-total black d gr green n s, c, n)
-
--- where a verdict is clear three equal ratios are one answer, and where it is not nothing else is answered
-pub same-answer : (v : Verdict) (black dark : ℕ) (shown seen : Centres)
-    → (v ≡ verdict.Clear → (ratioOf black (shown .r) (shown .gr) ≡ ratioOf dark (seen .r) (seen .gr))
-    × (ratioOf black (shown .b) (shown .gr) ≡ ratioOf dark (seen .b) (seen .gr))
-    × (ratioOf black (shown .gb) (shown .gr) ≡ ratioOf dark (seen .gb) (seen .gr)))
-    → answered v black shown ≡ answered v dark seen
-same-answer verdict.Clear black dark shown seen f = let e = f refl in rw (e .0, e .1, e .2)
-same-answer (verdict.Refused r) black dark shown seen f = refl

@@ -1,5 +1,5 @@
 -- The verdict, what an accepted call has, and what the verdict makes of the answer.
-use Prim.Native.Nat.{ℕ, min, _*_, _/_, _≤_, _<_}
+use Prim.Native.Nat.{ℕ, _*_, _/_, _≤_, _<_}
 use mathlib.Core.Bool.{false, _||_}
 use mathlib.Core.List.{List, [], _∷_}
 use mathlib.Core.Path.{_≡_, refl, ap, _∙_}
@@ -11,19 +11,19 @@ use borrow.Author.Tests.{ltb-false, eqb-false}
 use Rattle.laws.proofs.Cases.{neither, times-le}
 use Rattle.window.specs.Shape.{badSides, badScale, sitesOf}
 use Rattle.window.specs.View.{badCode, above, seen, one}
-use Rattle.verdict.specs.Verdict.{_⨟_, refuseIf, refuseFirst}
-use Rattle.window.specs.Judge.{shapeOf, otherThan, codesOf, samplesOf, walked}
+use Rattle.verdict.specs.Verdict.{_⨟_}
+use Rattle.window.specs.Judge.{otherThan}
 use Rattle.plane.specs.Plane.{boxSums}
 use Rattle.verdict.specs.declared.Refusal.{Refusal}
 use Rattle.plane.specs.declared.Sums.{Sums}
-use Rattle.verdict.specs.declared.Verdict.{Verdict}
 use Rattle.verdict.specs.declared.Verdict.the-variants as verdict
-use Rattle.window.proofs.Sides.{Sides}
-use Rattle.verdict.proofs.Verdicts.{Test, Tabled, test, testFirst, tabled, then-same, then-clear, then-assoc, unless}
-use Rattle.window.proofs.Chains.{shape-clear, same-length, samples-clear, measured, codes-whole, samples-whole}
+use Rattle.window.proofs.Sides.{Sides, sides, scale}
+use Rattle.verdict.proofs.Verdicts.{Test, Tabled, test, testFirst, tabled, tabled-none, tabled-then, then-clear, unless}
+use Rattle.verdict.proofs.Answers.{was-accepted}
+use Rattle.window.proofs.Judges.{frame-clear, frame-tabled}
 use Rattle.colour.specs.Bayer.{mosaicOf, centresOf}
 use Rattle.colour.specs.Centre.{centreOf, tooSmall, centreSums, someEmpty}
-use Rattle.colour.specs.Colour.{aboveBlack, notAbove, ratioOf, centresSeen, frameVerdict, centresVerdict, colourVerdict, answered, colourAnswer, paperOf, colourPaper}
+use Rattle.colour.specs.Colour.{aboveBlack, notAbove, ratioOf, centresSeen, lentVerdict, centresVerdict, colourVerdict, colourAnswer, paperOf, colourPaper}
 use Rattle.colour.specs.declared.Centres.{Centres}
 use Rattle.colour.specs.declared.Ratio.{Ratio}
 use Rattle.colour.specs.declared.Colour.the-variants.{OverGr, Refused}
@@ -79,36 +79,10 @@ module _ (w h full black order : ℕ) (mask frame : List ℕ) where
       ∷ []
 
   pub table : Tabled (colourVerdict w h full black order mask frame) tests
-  unfolding colourVerdict frameVerdict shapeOf refuseFirst
-  table = simp then-assoc (tabled _ _)
-
-  -- 1 to 6 come first
-  pub frame-then : (v : Verdict) → frameVerdict w h full black order mask frame ⨟ v
-      ≡ shapeOf w h full
-      ⨟ refuseIf 3 0 (ltb full black)
-      ⨟ refuseIf 3 0 (ltb 3 order)
-      ⨟ refuseIf 4 0 (otherThan (sitesOf w h) (length mask))
-      ⨟ refuseIf 4 0 (otherThan (sitesOf w h) (length frame))
-      ⨟ codesOf (sitesOf w h) mask
-      ⨟ samplesOf (sitesOf w h) full (seen mask frame)
-      ⨟ v
-  unfolding frameVerdict
-  frame-then v = simp then-assoc refl
-
-  -- what is judged of buffers of another length does not matter: 4 comes first
-  pub judged : shapeOf w h full
-      ⨟ refuseIf 3 0 (ltb full black)
-      ⨟ refuseIf 3 0 (ltb 3 order)
-      ⨟ refuseIf 4 0 (otherThan (sitesOf w h) (length mask))
-      ⨟ refuseIf 4 0 (otherThan (sitesOf w h) (length frame))
-      ⨟ codesOf (walked w h (length mask)) mask
-      ⨟ samplesOf (min (walked w h (length mask)) (walked w h (length frame))) full (seen mask frame)
-      ≡ frameVerdict w h full black order mask frame
-  unfolding frameVerdict
-  judged =
-      then-same (shapeOf w h full) (λ _. then-same (refuseIf 3 0 (ltb full black)) (λ _. then-same (refuseIf 3 0 (ltb 3 order)) (λ _.
-      measured (sitesOf w h) (length mask) (λ e. measured (sitesOf w h) (length frame) (λ f.
-      rw (codes-whole w h mask e, samples-whole w h full mask frame e f))))))
+  unfolding colourVerdict lentVerdict
+  table =
+      tabled-then (frame-tabled w h full mask frame (tabled-then (tabled _ []) (tabled _ [])) tabled-none)
+      (tabled-then (tabled _ []) (tabled-then (tabled _ []) (tabled _ [])))
 
   -- what is lent where 1 to 6 refuse nothing
   pub record Lent : Type 0 where
@@ -119,23 +93,18 @@ module _ (w h full black order : ℕ) (mask frame : List ℕ) where
     pub dark : black ≤ full
     pub low : (i : ℕ) → i < sitesOf w h → seen mask frame i ≤ full
 
-  pub lent : frameVerdict w h full black order mask frame ≡ verdict.Clear → Lent
-  unfolding frameVerdict
+  pub lent : lentVerdict w h full black order mask frame ≡ verdict.Clear → Lent
+  unfolding lentVerdict
   lent e =
-      let n = sitesOf w h in
-      let shape = then-clear _ _ e in
-      let dark = then-clear _ _ (shape .1) in
-      let ordered = then-clear _ _ (dark .1) in
-      let masked = then-clear _ _ (ordered .1) in
-      let framed = then-clear _ _ (masked .1) in
-      let coded = then-clear _ _ (framed .1) in
+      let passed = frame-clear w h full mask frame e in
+      let of = passed .2 in
       record {
-        legal = shape-clear w h full (shape .0) .0;
-        masked = same-length n (length mask) (unless 4 0 (otherThan n (length mask)) (masked .0));
-        framed = same-length n (length frame) (unless 4 0 (otherThan n (length frame)) (framed .0));
-        scale = shape-clear w h full (shape .0) .1 .high;
-        dark = ltb-false full black (unless 3 0 (ltb full black) (dark .0));
-        low = samples-clear n full (seen mask frame) (coded .1);
+        legal = sides w h (of .of .legal);
+        masked = of .of .masked;
+        framed = of .framed;
+        scale = scale full (of .of .scaled) .high;
+        dark = ltb-false full black (unless 3 0 (ltb full black) (then-clear _ _ (passed .0) .0));
+        low = of .range;
       }
 
   -- what an accepted call has
@@ -157,14 +126,14 @@ module _ (w h full black order : ℕ) (mask frame : List ℕ) where
       let large = then-clear _ _ (framed .1) in
       let some = then-clear _ _ (large .1) in
       let l = lent (framed .0) in
-      let sides = neither (ltb (w / 2) 32) (ltb (h / 2) 24) (unless 9 0 (tooSmall w h) (large .0)) in
+      let wide = neither (ltb (w / 2) 32) (ltb (h / 2) 24) (unless 9 0 (tooSmall w h) (large .0)) in
       let seen-some = filled shown (unless 7 0 (someEmpty shown) (some .0)) in
       let lit : (plane : ℕ) → 0 < centreSums w h (seen mask frame) (one mask) plane .count → Lit full (centreSums w h (seen mask frame) (one mask) plane) =
       λ plane more. record { some = more; few = few w h mask frame plane; low = low w h mask frame plane full (λ i j. l .low i (omega (arith, l .legal .sites))) } in
       record {
         of = l;
-        wide = ltb-false (w / 2) 32 (sides .0);
-        high = ltb-false (h / 2) 24 (sides .1);
+        wide = ltb-false (w / 2) 32 (wide .0);
+        high = ltb-false (h / 2) 24 (wide .1);
         r = lit (mosaicOf order .r) (seen-some .0);
         gr = lit (mosaicOf order .gr) (seen-some .1 .0);
         b = lit (mosaicOf order .b) (seen-some .1 .1 .0);
@@ -173,7 +142,7 @@ module _ (w h full black order : ℕ) (mask frame : List ℕ) where
       }
 
   -- where 1 to 6 refuse nothing, what the code sees is what is in the centres, and they decide
-  module _ (clear : frameVerdict w h full black order mask frame ≡ verdict.Clear) (shown : Centres)
+  module _ (clear : lentVerdict w h full black order mask frame ≡ verdict.Clear) (shown : Centres)
       (e : shown ≡ centresOf order (λ (plane : ℕ). boxSums w h plane (centreOf w h) mask frame)) where
     pub whole : shown ≡ centresSeen w h order mask frame
     whole = let l = lent clear in e ∙ shown-whole w h order mask frame (l .legal) (l .masked) (l .framed)
@@ -182,7 +151,7 @@ module _ (w h full black order : ℕ) (mask frame : List ℕ) where
     unfolding colourVerdict _⨟_
     rest = rw clear (ap (λ (seen : Centres). centresVerdict w h black seen) whole)
 
-  pub frame-refused : (r : Refusal) → frameVerdict w h full black order mask frame ≡ verdict.Refused r
+  pub frame-refused : (r : Refusal) → lentVerdict w h full black order mask frame ≡ verdict.Refused r
       → colourVerdict w h full black order mask frame ≡ verdict.Refused r
   unfolding colourVerdict _⨟_
   frame-refused r e = rw e
@@ -206,10 +175,6 @@ module _ (w h full black order : ℕ) (mask frame : List ℕ) where
       × (b ≡ ratioOf black (centresSeen w h order mask frame .b) (centresSeen w h order mask frame .gr))
       × (gb ≡ ratioOf black (centresSeen w h order mask frame .gb) (centresSeen w h order mask frame .gr)))
   unfolding colourAnswer
-  answer-is r b gb = by (colourVerdict w h full black order mask frame) (centresSeen w h order mask frame)
-    where
-      by : (v : Verdict) (shown : Centres) → answered v black shown ≡ OverGr r b gb
-          → (v ≡ verdict.Clear)
-          × ((r ≡ ratioOf black (shown .r) (shown .gr)) × (b ≡ ratioOf black (shown .b) (shown .gr)) × (gb ≡ ratioOf black (shown .gb) (shown .gr)))
-      by verdict.Clear shown e = (refl, (cc, cc, cc))
-      by (verdict.Refused r) shown e = let z : _≡_ {A = ℕ} 0 1 = cc in absurd (omega arith)
+  answer-is r b gb e =
+      let was = was-accepted (colourVerdict w h full black order mask frame) (λ r f. let z : _≡_ {A = ℕ} 0 1 = cc in absurd (omega arith)) e in
+      (was .0, (cc, cc, cc))

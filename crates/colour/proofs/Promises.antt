@@ -10,15 +10,13 @@ use Rattle.laws.proofs.Sole.{Sole, sole}
 use Rattle.window.specs.Shape.{sitesOf}
 use Rattle.window.specs.View.{surveyed, seen, one}
 use Rattle.plane.specs.Plane.{rowParity, columnParity}
-use Rattle.verdict.specs.Verdict.{numberOf, placeOf, ifClear}
-use Rattle.verdict.specs.declared.Verdict.{Verdict}
-use Rattle.verdict.specs.declared.Verdict.the-variants as verdict
+use Rattle.window.specs.Judge.{frameVerdict}
 use Rattle.verdict.proofs.Verdicts.{Tabled, Refuses, refuses}
+use Rattle.verdict.proofs.Answers.{paper-told}
 use Rattle.window.proofs.Views.{Agree, same-view}
 use Rattle.colour.specs.Bayer.{mosaic, mosaicOf}
 use Rattle.colour.specs.Centre.{centreOf}
-use Rattle.colour.specs.Colour.{ratioOf, centresSeen, frameVerdict, colourVerdict, answered, colourAnswer, noRatio, paperOf, colourPaper}
-use Rattle.colour.specs.declared.Centres.{Centres}
+use Rattle.colour.specs.Colour.{centresSeen, lentVerdict, colourVerdict, noFigures, colourAnswer, paperOf, colourPaper}
 use Rattle.colour.specs.declared.Colour.the-variants.{OverGr}
 use Rattle.colour.specs.declared.Mosaic.{Mosaic}
 use Rattle.colour.specs.declared.Ratio.{Ratio}
@@ -35,19 +33,7 @@ module _ (w h full black order : ℕ) (mask frame : List ℕ) where
   -- the paper's numbers are those of the answer
   pub paper-is : paperOf (colourAnswer w h full black order mask frame) ≡ colourPaper w h full black order mask frame
   unfolding colourAnswer colourPaper
-  paper-is = by (colourVerdict w h full black order mask frame) (centresSeen w h order mask frame)
-    where
-      by : (v : Verdict) (shown : Centres)
-          → paperOf (answered v black shown)
-          ≡ record {
-            number = numberOf v;
-            place = placeOf v;
-            r = ifClear v (ratioOf black (shown .r) (shown .gr)) noRatio;
-            b = ifClear v (ratioOf black (shown .b) (shown .gr)) noRatio;
-            gb = ifClear v (ratioOf black (shown .gb) (shown .gr)) noRatio;
-          }
-      by verdict.Clear shown = refl
-      by (verdict.Refused r) shown = refl
+  paper-is = paper-told paperOf (colourVerdict w h full black order mask frame) refl (λ r. refl)
 
   -- given: 1 to 6, 9, 7 and 10 exactly as document 01 tables them, in that order (`tests` has the table). 9 before 7 is the one exception
   -- to ascending numbers: a window that is too small gets 9, even with no surveyed site
@@ -56,16 +42,14 @@ module _ (w h full black order : ℕ) (mask frame : List ℕ) where
 
   -- refused: where the number is not 0 the other six numbers are 0, and where it is 0 so is the place
   pub refused : Refuses (colourPaper w h full black order mask frame .number) (colourPaper w h full black order mask frame .place)
-      ((colourPaper w h full black order mask frame .r ≡ noRatio)
-      × (colourPaper w h full black order mask frame .b ≡ noRatio)
-      × (colourPaper w h full black order mask frame .gb ≡ noRatio))
+      (colourPaper w h full black order mask frame .figures ≡ noFigures)
   unfolding colourPaper
-  refused = refuses (colourVerdict w h full black order mask frame) given refl (λ r e. rw e (refl, refl, refl))
+  refused = refuses (colourVerdict w h full black order mask frame) given refl (λ r e. rw e)
 
   -- blind: what another frame holds at unsurveyed sites changes nothing
   pub blind : (other : List ℕ) → Agree mask frame other
       → colourAnswer w h full black order mask frame ≡ colourAnswer w h full black order mask other
-  unfolding colourAnswer colourVerdict frameVerdict
+  unfolding colourAnswer colourVerdict lentVerdict frameVerdict
   blind other a = rw (a .long, same-view a)
 
   -- of an accepted call with these ratios

@@ -10,19 +10,20 @@ use borrow.Author.Tests.{le-ltb}
 use Rattle.laws.proofs.Firsts.{first-ext}
 use Rattle.window.specs.Shape.{sitesOf}
 use Rattle.window.specs.View.{surveyed, above, seen, one}
-use Rattle.verdict.specs.Verdict.{refuseIf, refuseFirst}
-use Rattle.window.specs.Judge.{shapeOf, samplesOf}
+use Rattle.verdict.specs.Verdict.{_⨟_, refuseIf, refuseFirst}
+use Rattle.window.specs.Judge.{samplesOf, frameVerdict}
 use Rattle.verdict.specs.declared.Verdict.{Verdict}
 use Rattle.window.proofs.Sides.{Sides}
 use Rattle.verdict.proofs.Verdicts.{then-same}
+use Rattle.verdict.proofs.Answers.{answer-same}
 use Rattle.window.proofs.Views.{seen-most, seen-raised}
 use Rattle.plane.proofs.Planes.{box-above}
-use Rattle.window.proofs.Chains.{shape-clear}
 use Rattle.colour.specs.Bayer.{mosaicOf}
 use Rattle.colour.specs.Centre.{centreOf, centreSums, someEmpty}
-use Rattle.colour.specs.Colour.{ratioOf, centresSeen, colourVerdict, answered, colourAnswer}
-use Rattle.colour.proofs.Judged.{accepted, frame-then}
-use Rattle.colour.proofs.Figures.{same-total, same-ratio, same-answer}
+use Rattle.colour.specs.Colour.{ratioOf, centresSeen, lentVerdict, centresVerdict, colourVerdict, colourAnswer}
+use Rattle.colour.specs.declared.Colour.the-variants.{Refused}
+use Rattle.colour.proofs.Judged.{lent, accepted}
+use Rattle.colour.proofs.Figures.{same-total, same-ratio}
 
 module _ (w h full black order d : ℕ) (mask frame brighter : List ℕ) (long : length brighter ≡ length frame) (dark : black + d ≤ full)
     (each : (i : ℕ) → i < sitesOf w h → surveyed (getD mask i 0) ≡ true → (getD brighter i 0 ≡ getD frame i 0 + d) × (getD brighter i 0 ≤ full)) where
@@ -54,18 +55,21 @@ module _ (w h full black order d : ℕ) (mask frame brighter : List ℕ) (long :
         ≡ ratioOf black (centreSums w h (seen mask frame) (one mask) plane) (centresSeen w h order mask frame .gr)
     ratios plane = same-ratio black d _ _ _ _ refl (totals plane) refl (totals (mosaicOf order .gr))
 
+  same-lent : lentVerdict w h full (black + d) order mask brighter ≡ lentVerdict w h full black order mask frame
+  unfolding lentVerdict frameVerdict
+  same-lent = rw (le-ltb full (black + d) dark, le-ltb full black (omega arith), long, samples)
+
   same-verdict : colourVerdict w h full (black + d) order mask brighter ≡ colourVerdict w h full black order mask frame
   unfolding colourVerdict someEmpty
   same-verdict =
-      frame-then w h full (black + d) order mask brighter _
-      ∙ then-same (shapeOf w h full) (λ c.
-      rw (le-ltb full (black + d) dark, le-ltb full black (omega arith), long, samples, same-total black d _ _ refl (totals (shape-clear w h full c .0) (mosaicOf order .gr))))
-      ∙ sym (frame-then w h full black order mask frame _)
+      ap (λ (v : Verdict). v ⨟ centresVerdict w h (black + d) (centresSeen w h order mask brighter)) same-lent
+      ∙ then-same (lentVerdict w h full black order mask frame)
+      (λ c. rw (same-total black d _ _ refl (totals (lent w h full black order mask frame c .legal) (mosaicOf order .gr))))
 
   pub lifted-alike : colourAnswer w h full (black + d) order mask brighter ≡ colourAnswer w h full black order mask frame
   unfolding colourAnswer
   lifted-alike =
-      ap (λ (v : Verdict). answered v (black + d) (centresSeen w h order mask brighter)) same-verdict
-      ∙ same-answer (colourVerdict w h full black order mask frame) (black + d) black (centresSeen w h order mask brighter) (centresSeen w h order mask frame)
+      rw same-verdict
+      (answer-same (colourVerdict w h full black order mask frame) Refused
       (λ e. let legal = accepted w h full black order mask frame e .of .legal in
-      (ratios legal (mosaicOf order .r), ratios legal (mosaicOf order .b), ratios legal (mosaicOf order .gb)))
+      rw (ratios legal (mosaicOf order .r), ratios legal (mosaicOf order .b), ratios legal (mosaicOf order .gb))))

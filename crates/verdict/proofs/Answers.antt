@@ -17,3 +17,8 @@ pub was-accepted : {A : Type 0} (v : Verdict) {accepted x : A} {refusing : Refus
     → answerOf v accepted refusing ≡ x → (v ≡ Clear) × (accepted ≡ x)
 was-accepted Clear other e = (refl, e)
 was-accepted (Refused r) other e = absurd (other r e)
+
+-- two answers on one verdict are one where what it accepts is
+pub answer-same : {A : Type 0} (v : Verdict) {a b : A} (refusing : Refusal → A) → (v ≡ Clear → a ≡ b) → answerOf v a refusing ≡ answerOf v b refusing
+answer-same Clear refusing e = e refl
+answer-same (Refused r) refusing e = refl

@@ -3,7 +3,7 @@ use mathlib.Core.Path.{_≡_, ap, sym, _∙_}
 use borrow.Author.Needs.{needs}
 use native.Mathlib.Omega.{arith}
 use Rattle.verdict.specs.declared.Verdict.the-variants as verdict
-use Rattle.colour.specs.Colour.{frameVerdict, colourVerdict, centresSeen}
+use Rattle.colour.specs.Colour.{lentVerdict, colourVerdict, centresSeen}
 use Rattle.colour.specs.declared.Centres.{Centres}
 use Rattle.colour.proofs.Judged.{fair, lent, accepted, whole, rest, frame-refused, refused-is, accepted-is}
 use Rattle.colour.proofs.colour_ratios.Statement.{statement}
@@ -14,7 +14,7 @@ Begun c = c .before .before .before .before .before .before
 
 -- 1 to 6 refuse nothing
 unrefused : (c : tie.After-centres-seen)
-    → frameVerdict (Begun c .args .width) (Begun c .args .height) (Begun c .args .full-scale) (Begun c .args .black-level) (Begun c .args .bayer-order) (Begun c .args .mask .now) (Begun c .args .frame .now)
+    → lentVerdict (Begun c .args .width) (Begun c .args .height) (Begun c .args .full-scale) (Begun c .args .black-level) (Begun c .args .bayer-order) (Begun c .args .mask .now) (Begun c .args .frame .now)
     ≡ verdict.Clear
 unrefused c = sym (c .before .before .before .judge .ensures) ∙ c .before .enum-told .given .1
 

@@ -1,17 +1,11 @@
--- `judge` is right because it asks the definition's tests in its order, and what it asks of buffers of another length comes after 4.
-use mathlib.Core.Path.{_∙_}
+-- `judge` is right because it hands the call's own 3 to the judge of a frame.
+use mathlib.Core.Path.{refl}
 use borrow.Author.Needs.{needs}
-use Rattle.colour.proofs.Judged.{judged}
 use Rattle.verdict.proofs.Verdicts.{then-of}
-use Rattle.window.proofs.Chains.{length-told}
+use Rattle.window.proofs.Judges.{frame-of}
+use Rattle.colour.specs.Colour.{lentVerdict}
 use Rattle.colour.proofs.judge.Statement.{statement}
 use Rattle.colour.proofs.judge.Tie as tie
-
-sites-requires : tie.Need-sites-requires
-sites-requires c κs = search needs
-
-shape-requires : tie.Need-shape-requires
-shape-requires c κs = search needs
 
 refuse-if-requires : tie.Need-refuse-if-requires
 refuse-if-requires c κs = search needs
@@ -19,66 +13,17 @@ refuse-if-requires c κs = search needs
 refuse-if-requires-2 : tie.Need-refuse-if-requires-2
 refuse-if-requires-2 c κs = search needs
 
-refuse-if-requires-3 : tie.Need-refuse-if-requires-3
-refuse-if-requires-3 c κs = search needs
-
-refuse-if-requires-4 : tie.Need-refuse-if-requires-4
-refuse-if-requires-4 c κs = search needs
-
-codes-requires : tie.Need-codes-requires
-codes-requires c κs = search needs
-
-samples-requires : tie.Need-samples-requires
-samples-requires c κs = search needs
-
 then-requires : tie.Need-then-requires
 then-requires c κs = search needs
 
-then-requires-2 : tie.Need-then-requires-2
-then-requires-2 c κs = search needs
-
-then-requires-3 : tie.Need-then-requires-3
-then-requires-3 c κs = search needs
-
-then-requires-4 : tie.Need-then-requires-4
-then-requires-4 c κs = search needs
-
-then-requires-5 : tie.Need-then-requires-5
-then-requires-5 c κs = search needs
-
-then-requires-6 : tie.Need-then-requires-6
-then-requires-6 c κs = search needs
+judge-frame-requires : tie.Need-judge-frame-requires
+judge-frame-requires c κs = search needs
 
 returns : tie.Need-returns
-returns c = let lengths = c .before .before .before in
-    let samples = lengths .before .before .before in
-    let frame-long = samples .before .before in
-    let shape = frame-long .before .before .before .before in
-    let n = shape .before .sites .ensures .0 in
-    then-of (c .then6 .ensures) (shape .shape .ensures)
-    (then-of (c .before .then5 .ensures) (frame-long .before .before .before .refuse-if .ensures)
-    (then-of (c .before .before .then4 .ensures) (frame-long .before .before .refuse-if2 .ensures)
-    (then-of (lengths .then3 .ensures) (length-told _ _ _ n (frame-long .before .refuse-if3 .ensures))
-    (then-of (lengths .before .then2 .ensures) (length-told _ _ _ n (frame-long .refuse-if4 .ensures))
-    (then-of (lengths .before .before .then .ensures) (samples .before .codes .ensures) (samples .samples .ensures))))))
-    ∙ judged _ _ _ _ _ _ _
+unfolding lentVerdict
+returns c = let both = c .before in
+    frame-of _ _ _ _ _ (c .judge-frame .ensures)
+    (then-of (both .then .ensures) (both .before .before .refuse-if .ensures) (both .before .refuse-if2 .ensures)) refl
 
 pub judge-spec : {M : Type 1} → statement M
-judge-spec =
-    tie.close
-    (tie.spec
-    sites-requires
-    shape-requires
-    refuse-if-requires
-    refuse-if-requires-2
-    refuse-if-requires-3
-    refuse-if-requires-4
-    codes-requires
-    samples-requires
-    then-requires
-    then-requires-2
-    then-requires-3
-    then-requires-4
-    then-requires-5
-    then-requires-6
-    returns)
+judge-spec = tie.close (tie.spec refuse-if-requires refuse-if-requires-2 then-requires judge-frame-requires returns)
