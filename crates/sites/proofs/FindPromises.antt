@@ -9,16 +9,15 @@ use Rattle.laws.specs.Table.{tabulate}
 use Rattle.laws.proofs.Sums.{sum-zero}
 use Rattle.laws.proofs.Tables.{getD-tabulate}
 use Rattle.laws.proofs.Sole.{Sole, sole}
+use Rattle.verdict.specs.declared.Verdict.the-variants as verdict
+use Rattle.verdict.proofs.Verdicts.{Tabled, Refuses, refuses}
+use Rattle.verdict.proofs.Answers.{paper-told}
 use Rattle.window.specs.Shape.{sitesOf}
 use Rattle.window.specs.View.{seenAt, seen}
-use Rattle.verdict.specs.Verdict.{numberOf, placeOf, ifClear}
-use Rattle.verdict.specs.declared.Verdict.{Verdict}
-use Rattle.verdict.specs.declared.Verdict.the-variants as verdict
+use Rattle.window.specs.Judge.{frameVerdict}
 use Rattle.window.proofs.Sides.{sides}
-use Rattle.verdict.proofs.Verdicts.{Tabled, Refuses, refuses}
 use Rattle.window.proofs.Views.{Agree, same-view, seen-out}
-use Rattle.sites.specs.Paper.{paper}
-use Rattle.sites.specs.Find.{defaultThreshold, usedThreshold, foundAt, markedAt, foundCount, findVerdict, findAnswered, findAnswer, findPaperOf, findPaper, findMask}
+use Rattle.sites.specs.Find.{defaultThreshold, usedThreshold, foundAt, markedAt, foundCount, findVerdict, findAnswer, findPaperOf, findPaper, findMask}
 use Rattle.sites.specs.declared.Defects.the-variants.{Found}
 use Rattle.sites.proofs.Finds.{farAt, same-found, same-marked}
 use Rattle.sites.proofs.Accepts.{find-tests, find-table, find-accepted, find-clear}
@@ -34,17 +33,13 @@ module _ (w h full t : ℕ) (mask frame out : List ℕ) where
   pub blind : (other : List ℕ) → Agree mask frame other
       → (findAnswer w h full t mask frame (length out) ≡ findAnswer w h full t mask other (length out))
       × (findMask w h full t mask frame out ≡ findMask w h full t mask other out)
-  unfolding findAnswer findMask findVerdict
+  unfolding findAnswer findMask findVerdict frameVerdict
   blind other a = rw (a .long, same-view a) (refl, refl)
 
   -- the paper's numbers are those of the answer
   pub paper-is : findPaperOf (findAnswer w h full t mask frame (length out)) ≡ findPaper w h full t mask frame (length out)
   unfolding findAnswer findPaper
-  paper-is = by (findVerdict w h full t mask frame (length out)) _
-    where
-      by : (v : Verdict) (n : ℕ) → findPaperOf (findAnswered v n) ≡ paper (numberOf v) (placeOf v) (ifClear v n 0)
-      by verdict.Clear n = refl
-      by (verdict.Refused r) n = refl
+  paper-is = paper-told findPaperOf (findVerdict w h full t mask frame (length out)) refl (λ r. refl)
 
   -- given: each refusal exactly as document 01 tables it, in that order (`find-tests` has the table)
   pub given : Tabled (findVerdict w h full t mask frame (length out)) (find-tests w h full t mask frame (length out))
@@ -52,7 +47,7 @@ module _ (w h full t : ℕ) (mask frame out : List ℕ) where
 
   -- refused: where the number is not 0 the count is 0 and the mask is as it was, and where it is 0 so is the place
   pub refused : Refuses (findPaper w h full t mask frame (length out) .number) (findPaper w h full t mask frame (length out) .place)
-      ((findPaper w h full t mask frame (length out) .count ≡ 0) × (findMask w h full t mask frame out ≡ out))
+      ((findPaper w h full t mask frame (length out) .figures ≡ 0) × (findMask w h full t mask frame out ≡ out))
   unfolding findPaper findMask
   refused = refuses (findVerdict w h full t mask frame (length out)) given refl (λ r e. rw e (refl, refl))
 
@@ -68,7 +63,7 @@ module _ (w h full t : ℕ) (mask frame out : List ℕ) (accepted : findVerdict 
   unfolding findMask
   written = rw accepted
 
-  counts : findPaper w h full t mask frame (length out) .count ≡ foundCount w h (usedThreshold t) mask (seen mask frame)
+  counts : findPaper w h full t mask frame (length out) .figures ≡ foundCount w h (usedThreshold t) mask (seen mask frame)
   unfolding findPaper
   counts = rw accepted
 
@@ -76,7 +71,7 @@ module _ (w h full t : ℕ) (mask frame out : List ℕ) (accepted : findVerdict 
   code-after i l = rw written (getD-tabulate (sitesOf w h) (markedAt w h (usedThreshold t) mask (seen mask frame)) i l)
 
   -- the count is the number of sites that were 0 and are 2
-  pub count-is-turned : findPaper w h full t mask frame (length out) .count ≡ turnedCount (sitesOf w h) 0 2 mask (findMask w h full t mask frame out)
+  pub count-is-turned : findPaper w h full t mask frame (length out) .figures ≡ turnedCount (sitesOf w h) 0 2 mask (findMask w h full t mask frame out)
   unfolding foundCount foundAt markedAt seenAt
   count-is-turned =
       rw (counts, written)
@@ -94,7 +89,7 @@ module _ (w h full t : ℕ) (mask frame out : List ℕ) (accepted : findVerdict 
   gap-stays i l gap = code-after i l ∙ kept 0 2 (getD mask i 0) (farAt w h (usedThreshold t) mask (seen mask frame) i) (λ e. omega arith) ∙ gap
 
   -- no surveyed site gives the count 0
-  pub none-surveyed : ((i : ℕ) → i < sitesOf w h → getD mask i 0 ≡ 0 → ⊥) → findPaper w h full t mask frame (length out) .count ≡ 0
+  pub none-surveyed : ((i : ℕ) → i < sitesOf w h → getD mask i 0 ≡ 0 → ⊥) → findPaper w h full t mask frame (length out) .figures ≡ 0
   unfolding foundCount foundAt
   none-surveyed none = counts ∙ sum-zero (sitesOf w h) _ (λ i l. seen-out (getD mask i 0) _ (none i l))
 
@@ -105,7 +100,7 @@ module _ (w h full t : ℕ) (mask frame out : List ℕ) (accepted : findVerdict 
   unfolding findAnswer findMask foundCount
   flips down across =
       let a = find-accepted w h full t mask frame (length out) accepted in
-      let legal = sides w h (a .0 .legal) in
+      let legal = sides w h (a .0 .of .legal) in
       let m = flipped down across w h mask in
       let f = flipped down across w h frame in
       let also = find-clear w h full t m f (length out) (accepted-flip down across w h legal full mask frame (a .0)) (a .1) (a .2) in

@@ -1,25 +1,20 @@
 -- The laws of the search for defective sites.
-use Prim.Native.Nat.{ℕ, _≤_, min}
+use Prim.Native.Nat.{ℕ, _≤_}
 use mathlib.Core.Bool.{Bool, true, false, cond}
 use mathlib.Core.List.{List}
-use mathlib.Core.Path.{_≡_, refl, sym, ap, _∙_}
+use mathlib.Core.Path.{_≡_, refl, sym, _∙_}
 use native.Mathlib.Omega.{arith}
 use lib.Dec.{eqb, ltb}
 use lib.ListN.{length, getD}
 use borrow.Author.Tests.{ltb-false}
 use Rattle.laws.specs.Table.{tabulate}
+use Rattle.verdict.specs.declared.Refusal.{Refusal}
+use Rattle.verdict.specs.declared.Verdict.the-variants as verdict
 use Rattle.window.specs.Shape.{sitesOf}
 use Rattle.window.specs.View.{seen, one}
-use Rattle.verdict.specs.Verdict.{_⨟_, refuseIf}
-use Rattle.window.specs.Judge.{shapeOf, otherThan, codesOf, samplesOf, walked}
-use Rattle.verdict.specs.declared.Refusal.{Refusal}
-use Rattle.verdict.specs.declared.Verdict.{Verdict}
-use Rattle.verdict.specs.declared.Verdict.the-variants as verdict
 use Rattle.window.proofs.Views.{seen-is, seen-in, seen-out}
-use Rattle.window.proofs.Chains.{seen-whole}
 use Rattle.sites.specs.Near.{nearSum}
-use Rattle.sites.specs.Paper.{paper}
-use Rattle.sites.specs.Find.{defaultThreshold, usedThreshold, far, foundAt, markedAt, foundCount, findVerdict, findAnswer, findPaper, findMask}
+use Rattle.sites.specs.Find.{defaultThreshold, usedThreshold, far, foundAt, markedAt, foundCount, findVerdict, findAnswer, findPaperOf, findPaper, findMask}
 use Rattle.sites.specs.declared.Defects.the-variants.{Found, Refused}
 
 module _ (w h t : ℕ) (mask frame : List ℕ) (i : ℕ) where
@@ -52,21 +47,6 @@ module _ (w h t : ℕ) (m n : List ℕ) (f g : ℕ → ℕ) (i j : ℕ) (code : 
   unfolding markedAt
   same-marked found = rw (code, found)
 
--- 5 and 6 follow the lengths, so they are asked of whole buffers alone
-pub find-told : (w h full t : ℕ) (mask frame : List ℕ) (out : ℕ)
-    → shapeOf w h full
-    ⨟ refuseIf 3 0 (ltb 4095 t)
-    ⨟ refuseIf 4 0 (otherThan (sitesOf w h) (length mask))
-    ⨟ refuseIf 4 0 (otherThan (sitesOf w h) (length frame))
-    ⨟ refuseIf 4 0 (otherThan (sitesOf w h) out)
-    ⨟ codesOf (walked w h (length mask)) mask
-    ⨟ samplesOf (min (walked w h (length mask)) (walked w h (length frame))) full (seen mask frame)
-    ≡ findVerdict w h full t mask frame out
-unfolding findVerdict
-find-told w h full t mask frame out =
-    ap (λ (v : Verdict). shapeOf w h full ⨟ refuseIf 3 0 (ltb 4095 t) ⨟ v)
-    (seen-whole w h full mask frame (λ (v : Verdict). refuseIf 4 0 (otherThan (sitesOf w h) out) ⨟ v))
-
 -- a threshold that is used is at most 4095, as one that is given
 pub used-few : (t used : ℕ) → used ≡ usedThreshold t → ltb 4095 t ≡ false → used ≤ 4095
 unfolding usedThreshold
@@ -80,7 +60,7 @@ used-few t used e low = rw e (by (eqb t 0))
 module _ (w h full t : ℕ) (mask frame out : List ℕ) where
   pub find-refused : (r : Refusal) → findVerdict w h full t mask frame (length out) ≡ verdict.Refused r
       → (Refused r ≡ findAnswer w h full t mask frame (length out))
-      × ((paper (r .number) (r .place) 0 ≡ findPaper w h full t mask frame (length out)) × (out ≡ findMask w h full t mask frame out))
+      × ((findPaperOf (Refused r) ≡ findPaper w h full t mask frame (length out)) × (out ≡ findMask w h full t mask frame out))
   unfolding findAnswer findPaper findMask
   find-refused r e = rw e (refl, (refl, refl))
 
@@ -88,6 +68,6 @@ module _ (w h full t : ℕ) (mask frame out : List ℕ) where
       → count ≡ foundCount w h used mask (seen mask frame) → left ≡ tabulate (sitesOf w h) (markedAt w h used mask (seen mask frame))
       → findVerdict w h full t mask frame (length out) ≡ verdict.Clear
       → (Found count ≡ findAnswer w h full t mask frame (length out))
-      × ((paper 0 0 count ≡ findPaper w h full t mask frame (length out)) × (left ≡ findMask w h full t mask frame out))
+      × ((findPaperOf (Found count) ≡ findPaper w h full t mask frame (length out)) × (left ≡ findMask w h full t mask frame out))
   unfolding findAnswer findPaper findMask
   find-done used count left u n m e = rw (e, n, m, u) (refl, (refl, refl))

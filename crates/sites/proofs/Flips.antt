@@ -13,13 +13,13 @@ use Rattle.laws.proofs.Sums.{sum-ext, sum-rows, sum-back, in-ext, in-back}
 use Rattle.laws.proofs.Tables.{length-tabulate, getD-tabulate, tabulate-ext}
 use Rattle.window.specs.Shape.{sitesOf}
 use Rattle.window.specs.View.{seenAt, seen, one}
-use Rattle.plane.specs.Plane.{rowParity, columnParity, planeOf, siteAt, boxSum}
 use Rattle.window.proofs.Sides.{Sides}
 use Rattle.window.proofs.Views.{seen-is, one-is}
+use Rattle.window.proofs.Judges.{Framed}
+use Rattle.plane.specs.Plane.{rowParity, columnParity, planeOf, siteAt, boxSum}
 use Rattle.plane.proofs.Planes.{site-row, site-column}
 use Rattle.sites.specs.Near.{nearSum}
 use Rattle.sites.proofs.Nears.{near-same}
-use Rattle.sites.proofs.Accepts.{Accepted}
 
 -- the k-th of n, from the other end where it is turned
 unfoldable pub mirrored : Bool → ℕ → ℕ → ℕ
@@ -202,15 +202,17 @@ module _ (down across : Bool) (w h : ℕ) (legal : Sides w h) where
         ∙ near-flip i inside reach (seen mask frame)
 
   -- a flipped window is accepted where the window is
-  pub accepted-flip : (full : ℕ) (mask frame : List ℕ) → Accepted w h full mask frame
-      → Accepted w h full (flipped down across w h mask) (flipped down across w h frame)
+  pub accepted-flip : (full : ℕ) (mask frame : List ℕ) → Framed w h full mask frame
+      → Framed w h full (flipped down across w h mask) (flipped down across w h frame)
   accepted-flip full mask frame a =
       let from : (i : ℕ) → i < sitesOf w h → flip down across w h i < sitesOf w h = λ i l. rw (legal .sites) (flip-in i (rw (legal .sites) at l)) in
       record {
-        legal = a .legal;
-        scaled = a .scaled;
-        masked = length-tabulate _ _;
+        of = record {
+          legal = a .of .legal;
+          scaled = a .of .scaled;
+          masked = length-tabulate _ _;
+          codes = λ i l. rw (code-flip mask frame i (rw (legal .sites) at l)) (a .of .codes (flip down across w h i) (from i l));
+        };
         framed = length-tabulate _ _;
-        codes = λ i l. rw (code-flip mask frame i (rw (legal .sites) at l)) (a .codes (flip down across w h i) (from i l));
         range = λ i l. rw (seen-flip mask frame i (rw (legal .sites) at l)) (a .range (flip down across w h i) (from i l));
       }

@@ -7,10 +7,10 @@ use lib.ListN.{length}
 use Rattle.laws.proofs.Sums.{box-scaled, box-above}
 use Rattle.window.specs.Shape.{sitesOf}
 use Rattle.window.specs.View.{seen, one}
+use Rattle.window.proofs.Sides.{Sides}
 use Rattle.plane.specs.Plane.{planeOf, planeRow, planeColumn, siteAt, boxSum, boxSums}
 use Rattle.plane.specs.declared.PlaneBox.{PlaneBox}
 use Rattle.plane.specs.declared.Sums.{Sums}
-use Rattle.window.proofs.Sides.{Sides}
 use Rattle.plane.proofs.Planes.{site-in, plane-row, plane-column, plane-of, box-same, sums-accepted}
 use Rattle.sites.specs.Near.{around, nearSum}
 

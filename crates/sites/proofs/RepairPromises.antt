@@ -12,20 +12,20 @@ use Rattle.laws.specs.Table.{tabulate}
 use Rattle.laws.proofs.Sums.{sum-zero}
 use Rattle.laws.proofs.Tables.{length-tabulate, getD-tabulate, tabulated}
 use Rattle.laws.proofs.Sole.{Sole, sole}
+use Rattle.verdict.specs.declared.Verdict.the-variants as verdict
+use Rattle.verdict.proofs.Verdicts.{Tabled, Refuses, refuses}
+use Rattle.verdict.proofs.Answers.{paper-told}
 use Rattle.window.specs.Shape.{sitesOf}
 use Rattle.window.specs.View.{seenAt, seen, one}
-use Rattle.verdict.specs.Verdict.{numberOf, placeOf, ifClear}
-use Rattle.verdict.specs.declared.Verdict.{Verdict}
-use Rattle.verdict.specs.declared.Verdict.the-variants as verdict
+use Rattle.window.specs.Judge.{frameVerdict}
 use Rattle.window.proofs.Sides.{sides}
-use Rattle.verdict.proofs.Verdicts.{Tabled, Refuses, refuses}
 use Rattle.window.proofs.Views.{Agree, same-view, seen-is, one-is}
+use Rattle.window.proofs.Judges.{Framed}
 use Rattle.sites.specs.Near.{nearSum}
-use Rattle.sites.specs.Paper.{paper}
-use Rattle.sites.specs.Repair.{meanOf, filledAt, sampleAfter, codeAfter, filledCount, repairVerdict, repairAnswered, repairAnswer, repairPaperOf, repairPaper, repairFrame, repairMask}
+use Rattle.sites.specs.Repair.{meanOf, filledAt, sampleAfter, codeAfter, filledCount, repairVerdict, repairAnswer, repairPaperOf, repairPaper, repairFrame, repairMask}
 use Rattle.sites.specs.declared.Repaired.the-variants.{Filled}
 use Rattle.sites.proofs.Nears.{Near, near-same, near-most, near-least}
-use Rattle.sites.proofs.Accepts.{Accepted, repair-tests, repair-table, repair-accepted, repair-clear}
+use Rattle.sites.proofs.Accepts.{repair-tests, repair-table, repair-accepted, repair-clear}
 use Rattle.sites.proofs.Repairs.{fillable, filled-new, same-seen, not-again, at-least, at-most, filled-some, same-filled, same-code, same-sample, mean-most, mean-least, not-defect, kept-code, kept-sample, new-sample}
 use Rattle.sites.proofs.Turns.{OnlyTurned, turnedCount, tied, only-turned, count-tied}
 use Rattle.sites.proofs.Flips.{flip, flipped, flip-count, flip-table, code-flip, sample-flip, ones-flip, view-flip, accepted-flip}
@@ -41,17 +41,13 @@ module _ (w h full : ℕ) (mask frame outFrame outMask : List ℕ) where
   pub blind : (other : List ℕ) → Agree mask frame other
       → (repairAnswer w h full mask frame (length outFrame) (length outMask) ≡ repairAnswer w h full mask other (length outFrame) (length outMask))
       × (repairMask w h full mask frame (length outFrame) outMask ≡ repairMask w h full mask other (length outFrame) outMask)
-  unfolding repairAnswer repairMask repairVerdict
+  unfolding repairAnswer repairMask repairVerdict frameVerdict
   blind other a = rw (a .long, same-view a) (refl, refl)
 
   -- the paper's numbers are those of the answer
   pub paper-is : repairPaperOf (repairAnswer w h full mask frame (length outFrame) (length outMask)) ≡ repairPaper w h full mask frame (length outFrame) (length outMask)
   unfolding repairAnswer repairPaper
-  paper-is = by (repairVerdict w h full mask frame (length outFrame) (length outMask)) _
-    where
-      by : (v : Verdict) (n : ℕ) → repairPaperOf (repairAnswered v n) ≡ paper (numberOf v) (placeOf v) (ifClear v n 0)
-      by verdict.Clear n = refl
-      by (verdict.Refused r) n = refl
+  paper-is = paper-told repairPaperOf (repairVerdict w h full mask frame (length outFrame) (length outMask)) refl (λ r. refl)
 
   -- given: each refusal exactly as document 01 tables it, in that order (`repair-tests` has the table)
   pub given : Tabled (repairVerdict w h full mask frame (length outFrame) (length outMask)) (repair-tests w h full mask frame (length outFrame) (length outMask))
@@ -59,7 +55,7 @@ module _ (w h full : ℕ) (mask frame outFrame outMask : List ℕ) where
 
   -- refused: where the number is not 0 the count is 0 and both buffers are as they were, and where it is 0 so is the place
   pub refused : Refuses (repairPaper w h full mask frame (length outFrame) (length outMask) .number) (repairPaper w h full mask frame (length outFrame) (length outMask) .place)
-      ((repairPaper w h full mask frame (length outFrame) (length outMask) .count ≡ 0)
+      ((repairPaper w h full mask frame (length outFrame) (length outMask) .figures ≡ 0)
       × (repairFrame w h full mask frame outFrame (length outMask) ≡ outFrame)
       × (repairMask w h full mask frame (length outFrame) outMask ≡ outMask))
   unfolding repairPaper repairFrame repairMask
@@ -93,7 +89,7 @@ module _ (w h full : ℕ) (mask frame outFrame outMask : List ℕ) (accepted : r
   samples-written : F ≡ tabulate (sitesOf w h) (sampleAfter w h mask (seen mask frame) frame)
   samples-written = frame-as w h full mask frame outFrame outMask accepted
 
-  counts : repairPaper w h full mask frame (length outFrame) (length outMask) .count ≡ filledCount w h mask
+  counts : repairPaper w h full mask frame (length outFrame) (length outMask) .figures ≡ filledCount w h mask
   unfolding repairPaper
   counts = rw accepted
 
@@ -104,7 +100,7 @@ module _ (w h full : ℕ) (mask frame outFrame outMask : List ℕ) (accepted : r
   sample-at i l = rw samples-written (getD-tabulate (sitesOf w h) (sampleAfter w h mask (seen mask frame) frame) i l)
 
   -- the count is the number of sites that were 2 and are 3
-  pub count-is-turned : repairPaper w h full mask frame (length outFrame) (length outMask) .count ≡ turnedCount (sitesOf w h) 2 3 mask (repairMask w h full mask frame (length outFrame) outMask)
+  pub count-is-turned : repairPaper w h full mask frame (length outFrame) (length outMask) .figures ≡ turnedCount (sitesOf w h) 2 3 mask (repairMask w h full mask frame (length outFrame) outMask)
   unfolding filledCount filledAt codeAfter
   count-is-turned =
       rw (counts, codes-written)
@@ -164,23 +160,25 @@ module _ (w h full : ℕ) (mask frame outFrame outMask : List ℕ) (accepted : r
       ∙ same-seen (getD mask i 0) 1 1 (fillable w h mask i) (λ e. refl)
       ∙ sym (one-is mask i)
 
-  given-back : Accepted w h full mask frame
+  given-back : Framed w h full mask frame
   given-back = repair-accepted w h full mask frame (length outFrame) (length outMask) accepted .0
 
   none-filled : (i : ℕ) → i < sitesOf w h → filledAt w h M i ≡ 0
   unfolding codeAfter filledAt
   none-filled i l =
-      rw (code-at i l, near-same 1 w h i (one M) (one mask) (sides w h (given-back .legal)) one-same)
+      rw (code-at i l, near-same 1 w h i (one M) (one mask) (sides w h (given-back .of .legal)) one-same)
       (not-again (getD mask i 0) (fillable w h mask i))
 
-  accepted-again : Accepted w h full M F
+  accepted-again : Framed w h full M F
   accepted-again =
       record {
-        legal = given-back .legal;
-        scaled = given-back .scaled;
-        masked = ap length codes-written ∙ length-tabulate (sitesOf w h) (codeAfter w h mask);
+        of = record {
+          legal = given-back .of .legal;
+          scaled = given-back .of .scaled;
+          masked = ap length codes-written ∙ length-tabulate (sitesOf w h) (codeAfter w h mask);
+          codes = λ i l. ⊎-elim (λ e. rw e (given-back .of .codes i l)) (λ e. rw (e .1) (omega arith)) (only-filled i l);
+        };
         framed = ap length samples-written ∙ length-tabulate (sitesOf w h) (sampleAfter w h mask (seen mask frame) frame);
-        codes = λ i l. ⊎-elim (λ e. rw e (given-back .codes i l)) (λ e. rw (e .1) (omega arith)) (only-filled i l);
         range = λ i l. rw (seen-same i l) (given-back .range i l);
       }
 
@@ -199,7 +197,7 @@ module _ (w h full : ℕ) (mask frame outFrame outMask : List ℕ) (accepted : r
         frame-as w h full M F second third also
             ∙ sym (tabulated (sitesOf w h) (sampleAfter w h M (seen M F) F) F (accepted-again .framed) (λ i l. kept-sample w h M i (seen M F) F (none-filled i l))),
         mask-as w h full M F second third also
-            ∙ sym (tabulated (sitesOf w h) (codeAfter w h M) M (accepted-again .masked) (λ i l. kept-code w h M i (none-filled i l))),
+            ∙ sym (tabulated (sitesOf w h) (codeAfter w h M) M (accepted-again .of .masked) (λ i l. kept-code w h M i (none-filled i l))),
       )
 
   -- flipping the window top-bottom, left-right, or both flips the frame and the mask that are written, and keeps the count
@@ -209,7 +207,7 @@ module _ (w h full : ℕ) (mask frame outFrame outMask : List ℕ) (accepted : r
       × (repairMask w h full (flipped down across w h mask) (flipped down across w h frame) (length outFrame) outMask ≡ flipped down across w h (repairMask w h full mask frame (length outFrame) outMask))
   flips down across =
       let lengths = repair-accepted w h full mask frame (length outFrame) (length outMask) accepted in
-      let legal = sides w h (given-back .legal) in
+      let legal = sides w h (given-back .of .legal) in
       let m = flipped down across w h mask in
       let f = flipped down across w h frame in
       let also = repair-clear w h full m f (length outFrame) (length outMask) (accepted-flip down across w h legal full mask frame given-back) (lengths .1) (lengths .2) in
@@ -231,7 +229,7 @@ module _ (w h full : ℕ) (mask frame outFrame outMask : List ℕ) (accepted : r
 -- what the frame holds at sites that are not surveyed does not change the verdict
 same-verdict : (w h full : ℕ) (mask frame other : List ℕ) (outFrame outMask : ℕ) → Agree mask frame other
     → repairVerdict w h full mask frame outFrame outMask ≡ repairVerdict w h full mask other outFrame outMask
-unfolding repairVerdict
+unfolding repairVerdict frameVerdict
 same-verdict w h full mask frame other outFrame outMask a = rw (a .long, same-view a)
 
 -- blind: nor does it change the sample of any site that is surveyed or filled

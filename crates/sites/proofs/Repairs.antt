@@ -1,26 +1,21 @@
 -- The laws of repair.
-use Prim.Native.Nat.{ℕ, _+_, _*_, _/_, _<_, _≤_, min}
+use Prim.Native.Nat.{ℕ, _+_, _*_, _/_, _<_, _≤_}
 use mathlib.Core.Bool.{Bool, true, false, cond}
 use mathlib.Core.List.{List}
-use mathlib.Core.Path.{_≡_, refl, ap, _∙_}
+use mathlib.Core.Path.{_≡_, refl, _∙_}
 use native.Mathlib.Nat.{div-lt-iff-lt-mul, le-div-iff-mul-le, add-mul, mul-left-comm}
 use native.Mathlib.Omega.{arith}
 use lib.Dec.{eqb, ltb}
 use lib.ListN.{length, getD}
 use borrow.Author.Tests.{eqb-true, ltb-true, eq-eqb, ne-eqb, lt-ltb}
 use Rattle.laws.specs.Table.{tabulate}
-use Rattle.window.specs.View.{surveyed, seenAt, seen, one}
-use Rattle.window.specs.Shape.{sitesOf}
-use Rattle.verdict.specs.Verdict.{_⨟_, refuseIf}
-use Rattle.window.specs.Judge.{shapeOf, otherThan, codesOf, samplesOf, walked}
 use Rattle.verdict.specs.declared.Refusal.{Refusal}
-use Rattle.verdict.specs.declared.Verdict.{Verdict}
 use Rattle.verdict.specs.declared.Verdict.the-variants as verdict
+use Rattle.window.specs.Shape.{sitesOf}
+use Rattle.window.specs.View.{surveyed, seenAt, seen, one}
 use Rattle.window.proofs.Views.{seen-most, seen-counted}
-use Rattle.window.proofs.Chains.{seen-whole}
 use Rattle.sites.specs.Near.{nearSum}
-use Rattle.sites.specs.Paper.{paper}
-use Rattle.sites.specs.Repair.{meanOf, filledAt, sampleAfter, codeAfter, filledCount, repairVerdict, repairAnswer, repairPaper, repairFrame, repairMask}
+use Rattle.sites.specs.Repair.{meanOf, filledAt, sampleAfter, codeAfter, filledCount, repairVerdict, repairAnswer, repairPaperOf, repairPaper, repairFrame, repairMask}
 use Rattle.sites.specs.declared.Repaired.the-variants.{Filled, Refused}
 use Rattle.sites.proofs.Turns.{after, decided}
 
@@ -138,26 +133,11 @@ module _ (w h : ℕ) (m n : List ℕ) (i j : ℕ) (code : getD m i 0 ≡ getD n 
   unfolding sampleAfter
   same-sample f g k l sample sums = rw (same-filled, sample, sums, ones)
 
--- 5 and 6 follow the lengths, so they are asked of whole buffers alone
-pub repair-told : (w h full : ℕ) (mask frame : List ℕ) (outFrame outMask : ℕ)
-    → shapeOf w h full
-    ⨟ refuseIf 4 0 (otherThan (sitesOf w h) (length mask))
-    ⨟ refuseIf 4 0 (otherThan (sitesOf w h) (length frame))
-    ⨟ refuseIf 4 0 (otherThan (sitesOf w h) outFrame)
-    ⨟ refuseIf 4 0 (otherThan (sitesOf w h) outMask)
-    ⨟ codesOf (walked w h (length mask)) mask
-    ⨟ samplesOf (min (walked w h (length mask)) (walked w h (length frame))) full (seen mask frame)
-    ≡ repairVerdict w h full mask frame outFrame outMask
-unfolding repairVerdict
-repair-told w h full mask frame outFrame outMask =
-    ap (λ (v : Verdict). shapeOf w h full ⨟ v)
-    (seen-whole w h full mask frame (λ (v : Verdict). refuseIf 4 0 (otherThan (sitesOf w h) outFrame) ⨟ refuseIf 4 0 (otherThan (sitesOf w h) outMask) ⨟ v))
-
 -- what the verdict makes of the answer, its numbers and the two buffers
 module _ (w h full : ℕ) (mask frame outFrame outMask : List ℕ) where
   pub repair-refused : (r : Refusal) → repairVerdict w h full mask frame (length outFrame) (length outMask) ≡ verdict.Refused r
       → (Refused r ≡ repairAnswer w h full mask frame (length outFrame) (length outMask))
-      × ((paper (r .number) (r .place) 0 ≡ repairPaper w h full mask frame (length outFrame) (length outMask))
+      × ((repairPaperOf (Refused r) ≡ repairPaper w h full mask frame (length outFrame) (length outMask))
       × ((outFrame ≡ repairFrame w h full mask frame outFrame (length outMask))
       × (outMask ≡ repairMask w h full mask frame (length outFrame) outMask)))
   unfolding repairAnswer repairPaper repairFrame repairMask
@@ -168,7 +148,7 @@ module _ (w h full : ℕ) (mask frame outFrame outMask : List ℕ) where
       → samples ≡ tabulate (sitesOf w h) (sampleAfter w h mask (seen mask frame) frame) → codes ≡ tabulate (sitesOf w h) (codeAfter w h mask)
       → repairVerdict w h full mask frame (length outFrame) (length outMask) ≡ verdict.Clear
       → (Filled count ≡ repairAnswer w h full mask frame (length outFrame) (length outMask))
-      × ((paper 0 0 count ≡ repairPaper w h full mask frame (length outFrame) (length outMask))
+      × ((repairPaperOf (Filled count) ≡ repairPaper w h full mask frame (length outFrame) (length outMask))
       × ((samples ≡ repairFrame w h full mask frame outFrame (length outMask))
       × (codes ≡ repairMask w h full mask frame (length outFrame) outMask)))
   unfolding repairAnswer repairPaper repairFrame repairMask

@@ -7,12 +7,12 @@ use lib.ListN.{length, getD}
 use Rattle.laws.specs.Signed.{apart}
 use Rattle.laws.specs.Sum.{sumTo}
 use Rattle.laws.specs.Table.{tabulate}
-use Rattle.window.specs.Shape.{sitesOf}
-use Rattle.window.specs.View.{defect, seenAt, seen, one}
 use Rattle.verdict.specs.Verdict.{refuseIf, ifClear}
 use Rattle.verdict.specs.Answer.{answerOf, Paper, acceptedPaper, refusedPaper, paperFor}
-use Rattle.window.specs.Judge.{lengthOf, frameVerdict}
 use Rattle.verdict.specs.declared.Verdict.{Verdict}
+use Rattle.window.specs.Shape.{sitesOf}
+use Rattle.window.specs.View.{defect, seenAt, seen, one}
+use Rattle.window.specs.Judge.{lengthOf, frameVerdict}
 use Rattle.sites.specs.Near.{nearSum}
 use Rattle.sites.specs.declared.Defects.{Defects}
 use Rattle.sites.specs.declared.Defects.the-variants.{Found, Refused}
@@ -52,7 +52,8 @@ findVerdict w h full t mask frame out =
 
 -- the answer: the count, or the refusal
 unfoldable pub findAnswer : ℕ → ℕ → ℕ → ℕ → List ℕ → List ℕ → ℕ → Defects
-findAnswer w h full t mask frame out = answerOf (findVerdict w h full t mask frame out) (Found (foundCount w h (usedThreshold t) mask (seen mask frame))) Refused
+findAnswer w h full t mask frame out =
+    answerOf (findVerdict w h full t mask frame out) (Found (foundCount w h (usedThreshold t) mask (seen mask frame))) Refused
 
 -- the paper's numbers of an answer
 abbrev pub findPaperOf : Defects → Paper ℕ
@@ -61,7 +62,8 @@ findPaperOf (Refused r) = refusedPaper r 0
 
 -- the paper's numbers for all inputs
 unfoldable pub findPaper : ℕ → ℕ → ℕ → ℕ → List ℕ → List ℕ → ℕ → Paper ℕ
-findPaper w h full t mask frame out = paperFor (findVerdict w h full t mask frame out) (foundCount w h (usedThreshold t) mask (seen mask frame)) 0
+findPaper w h full t mask frame out =
+    paperFor (findVerdict w h full t mask frame out) (foundCount w h (usedThreshold t) mask (seen mask frame)) 0
 
 -- the output mask afterwards, or as it was
 unfoldable pub findMask : ℕ → ℕ → ℕ → ℕ → List ℕ → List ℕ → List ℕ → List ℕ

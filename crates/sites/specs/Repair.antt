@@ -6,13 +6,13 @@ use lib.Dec.{eqb, ltb}
 use lib.ListN.{length, getD}
 use Rattle.laws.specs.Sum.{sumTo}
 use Rattle.laws.specs.Table.{tabulate}
-use Rattle.window.specs.Shape.{sitesOf}
-use Rattle.window.specs.View.{defect, filled, one, seen}
 use Rattle.verdict.specs.Verdict.{_⨟_, ifClear}
 use Rattle.verdict.specs.Answer.{answerOf, Paper, acceptedPaper, refusedPaper, paperFor}
-use Rattle.window.specs.Judge.{lengthOf, frameVerdict}
 use Rattle.verdict.specs.declared.Verdict.{Verdict}
 use Rattle.verdict.specs.declared.Verdict.the-variants as verdict
+use Rattle.window.specs.Shape.{sitesOf}
+use Rattle.window.specs.View.{defect, filled, one, seen}
+use Rattle.window.specs.Judge.{lengthOf, frameVerdict}
 use Rattle.sites.specs.Near.{nearSum}
 use Rattle.sites.specs.declared.Repaired.{Repaired}
 use Rattle.sites.specs.declared.Repaired.the-variants.{Filled, Refused}
@@ -50,7 +50,8 @@ repairVerdict w h full mask frame outFrame outMask =
 
 -- the answer: the count, or the refusal
 unfoldable pub repairAnswer : ℕ → ℕ → ℕ → List ℕ → List ℕ → ℕ → ℕ → Repaired
-repairAnswer w h full mask frame outFrame outMask = answerOf (repairVerdict w h full mask frame outFrame outMask) (Filled (filledCount w h mask)) Refused
+repairAnswer w h full mask frame outFrame outMask =
+    answerOf (repairVerdict w h full mask frame outFrame outMask) (Filled (filledCount w h mask)) Refused
 
 -- the paper's numbers of an answer
 abbrev pub repairPaperOf : Repaired → Paper ℕ
@@ -59,7 +60,8 @@ repairPaperOf (Refused r) = refusedPaper r 0
 
 -- the paper's numbers for all inputs
 unfoldable pub repairPaper : ℕ → ℕ → ℕ → List ℕ → List ℕ → ℕ → ℕ → Paper ℕ
-repairPaper w h full mask frame outFrame outMask = paperFor (repairVerdict w h full mask frame outFrame outMask) (filledCount w h mask) 0
+repairPaper w h full mask frame outFrame outMask =
+    paperFor (repairVerdict w h full mask frame outFrame outMask) (filledCount w h mask) 0
 
 -- the output frame and the output mask afterwards, or as they were
 unfoldable pub repairFrame : ℕ → ℕ → ℕ → List ℕ → List ℕ → List ℕ → ℕ → List ℕ

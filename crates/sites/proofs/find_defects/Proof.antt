@@ -20,7 +20,7 @@ used-threshold-requires c κs = search needs
 
 mark-requires : tie.Need-mark-requires
 mark-requires c κs = let a = find-accepted _ _ _ _ _ _ _ (sym (c .before .before .before .before .judge-find .ensures) ∙ c .before .before .enum-told .given .1) in
-    ((a .0 .legal, used-few _ _ (c .before .used-threshold .ensures) (a .1)), (a .0 .masked, a .0 .framed, a .2))
+    ((a .0 .of .legal, used-few _ _ (c .before .used-threshold .ensures) (a .1)), (a .0 .of .masked, a .0 .framed, a .2))
 
 returns : tie.Need-returns
 returns c = find-refused _ _ _ _ _ _ _ _ (sym (c .before .before .before .judge-find .ensures) ∙ c .before .refusal .given .1)

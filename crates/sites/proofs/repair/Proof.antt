@@ -17,7 +17,7 @@ enum-told c = search needs
 
 fill-requires : tie.Need-fill-requires
 fill-requires c κs = let a = repair-accepted _ _ _ _ _ _ _ (sym (c .before .before .before .before .judge-repair .ensures) ∙ c .before .before .enum-told .given .1) in
-    ((a .0 .legal, a .0 .masked, a .0 .framed), (a .1, a .2))
+    ((a .0 .of .legal, a .0 .of .masked, a .0 .framed), (a .1, a .2))
 
 returns : tie.Need-returns
 returns c = repair-refused _ _ _ _ _ _ _ _ (sym (c .before .before .before .judge-repair .ensures) ∙ c .before .refusal .given .1)
