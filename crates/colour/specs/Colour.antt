@@ -40,7 +40,7 @@ ratioOf black colour gr =
 abbrev pub centresSeen : ℕ → ℕ → ℕ → List ℕ → List ℕ → Centres
 centresSeen w h order mask frame = centresOf order (centreSums w h (seen mask frame) (one mask))
 
--- the refusals of the window, of the numbers handed in and of what is lent, in their order
+-- the refusals in their order: 1 to 6, 3 of the black level and of the Bayer order
 unfoldable pub lentVerdict : ℕ → ℕ → ℕ → ℕ → ℕ → List ℕ → List ℕ → Verdict
 lentVerdict w h full black order mask frame =
     frameVerdict w h full (refuseIf 3 0 (ltb full black) ⨟ refuseIf 3 0 (ltb 3 order)) mask frame verdict.Clear

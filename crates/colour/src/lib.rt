@@ -169,12 +169,12 @@ fn judge(
 {
     let black = verdict::refuse_if(3, 0, full_scale < black_level);
     let order = verdict::refuse_if(3, 0, 3 < bayer_order);
-    let numbers = verdict::then(black, order);
+    let parameters = verdict::then(black, order);
     window::judge_frame(
         width,
         height,
         full_scale,
-        numbers,
+        parameters,
         mask,
         frame,
         Verdict::Clear,

@@ -19,7 +19,7 @@ use Rattle.dark.specs.declared.Dark.the-variants.{Level, Refused}
 unfoldable pub aboveBlack : ℕ → ℕ → (ℕ → ℕ) → (ℕ → ℕ) → ℤ
 aboveBlack sites black view ones = sumTo sites view ⊖ black * sumTo sites ones
 
--- the refusals in their order
+-- the refusals in their order: 1 to 6, 3 of the black level, then 7
 unfoldable pub darkVerdict : ℕ → ℕ → ℕ → ℕ → List ℕ → List ℕ → Verdict
 darkVerdict w h full black mask frame =
     frameVerdict w h full (refuseIf 3 0 (ltb full black)) mask frame verdict.Clear

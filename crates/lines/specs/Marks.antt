@@ -18,7 +18,7 @@ use Rattle.lines.specs.declared.Marked.the-variants.{Done, Refused}
 abbrev pub marksOf : Lines → ℕ
 marksOf lines = 4 * lines .count
 
--- the refusals in their order, for a buffer of so many marks
+-- the refusals in their order, for a buffer of so many marks: 1, 2, 4 to 6, then 9
 unfoldable pub linesVerdict : (ℕ → ℕ → Lines) → ℕ → ℕ → ℕ → List ℕ → List ℕ → ℕ → Verdict
 linesVerdict lines w h full mask frame marks =
     frameVerdict w h full verdict.Clear mask frame (refuseIf 4 0 (otherThan (marksOf (lines w h)) marks))

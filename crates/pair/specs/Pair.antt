@@ -53,7 +53,7 @@ figuresOf s = record {
   noise = quotient (root (2048 * s .p)) (64 * s .n);
 }
 
--- the refusals of both calls in their order: those of the window and of what is lent, the first frame's sites before the second's
+-- the refusals of both calls in their order: 1, 2, 4, 5, 6 of the first frame, then 6 of the second
 unfoldable pub framesVerdict : ℕ → ℕ → ℕ → List ℕ → List ℕ → List ℕ → Verdict
 framesVerdict w h full mask first second =
     frameVerdict w h full verdict.Clear mask first (lengthOf w h (length second))

@@ -21,7 +21,7 @@ use Rattle.pattern.specs.declared.Pattern.the-variants.{Measured, Refuse
 abbrev pub unsurveyed : List ℕ → ℕ → Bool
 unsurveyed mask i = not (surveyed (getD mask i 0))
 
--- the refusals in their order
+-- the refusals in their order: 1 to 5, 3 of the count, 4 of the sums too, then 8, 9 and 11
 unfoldable pub patternVerdict : (ℕ → ℕ → Lines) → ℕ → ℕ → ℕ → ℕ → List ℕ → List ℕ → Verdict
 patternVerdict lines w h full k mask sums =
     maskVerdict w h full (refuseIf 3 0 (badCount k)) mask (lengthOf w h (length sums))

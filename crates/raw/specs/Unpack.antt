@@ -5,7 +5,7 @@ use lib.ListN.{length}
 use Rattle.laws.specs.Table.{tabulate}
 use Rattle.window.specs.Shape.{badSides, sitesOf}
 use Rattle.verdict.specs.Verdict.{_⨟_, refuseIf, ifClear}
-use Rattle.verdict.specs.Answer.{answerOf, Paper, acceptedPaper, refusedPaper, paperFor, NoFigures, noFigures}
+use Rattle.verdict.specs.Answer.{answerOf, Paper, acceptedPaper, refusedPaper, paperFor, Nothing, nothing}
 use Rattle.window.specs.Judge.{otherThan, lengthOf}
 use Rattle.verdict.specs.declared.Verdict.{Verdict}
 use Rattle.raw.specs.Packed.{sample10, length10}
@@ -24,13 +24,13 @@ unfoldable pub unpackAnswer : ℕ → ℕ → ℕ → ℕ → Unpacked
 unpackAnswer w h bytes out = answerOf (unpackVerdict w h bytes out) Done Refused
 
 -- the paper's numbers of an answer
-abbrev pub paperOf : Unpacked → Paper NoFigures
-paperOf Done = acceptedPaper noFigures
-paperOf (Refused r) = refusedPaper r noFigures
+abbrev pub paperOf : Unpacked → Paper Nothing
+paperOf Done = acceptedPaper nothing
+paperOf (Refused r) = refusedPaper r nothing
 
 -- the paper's numbers for all inputs
-unfoldable pub unpackPaper : ℕ → ℕ → ℕ → ℕ → Paper NoFigures
-unpackPaper w h bytes out = paperFor (unpackVerdict w h bytes out) noFigures noFigures
+unfoldable pub unpackPaper : ℕ → ℕ → ℕ → ℕ → Paper Nothing
+unpackPaper w h bytes out = paperFor (unpackVerdict w h bytes out) nothing nothing
 
 -- the buffer `out` afterwards: every sample, or all as it was
 unfoldable pub unpackBuffer : ℕ → ℕ → List ℕ → List ℕ → List ℕ

@@ -45,7 +45,7 @@ markedAt w h t mask view i = marked (getD mask i 0) (foundAt w h t mask view i)
 unfoldable pub foundCount : ℕ → ℕ → ℕ → List ℕ → (ℕ → ℕ) → ℕ
 foundCount w h t mask view = sumTo (sitesOf w h) (foundAt w h t mask view)
 
--- the refusals in their order, of the mask, the frame and the length of the mask that is written
+-- the refusals in their order, of the mask, the frame and the length of the mask that is written: 1 to 6, 3 of the threshold
 unfoldable pub findVerdict : ℕ → ℕ → ℕ → ℕ → List ℕ → List ℕ → ℕ → Verdict
 findVerdict w h full t mask frame out =
     frameVerdict w h full (refuseIf 3 0 (ltb 4095 t)) mask frame (lengthOf w h out)

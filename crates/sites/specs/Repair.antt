@@ -43,7 +43,7 @@ codeAfter w h mask i = cond (eqb (filledAt w h mask i) 0) (getD mask i 0) filled
 unfoldable pub filledCount : ℕ → ℕ → List ℕ → ℕ
 filledCount w h mask = sumTo (sitesOf w h) (filledAt w h mask)
 
--- the refusals in their order, of the mask, the frame and the lengths of the two buffers that are written
+-- the refusals in their order, of the mask, the frame and the lengths of the two buffers that are written: 1, 2, 4, 5, 6
 unfoldable pub repairVerdict : ℕ → ℕ → ℕ → List ℕ → List ℕ → ℕ → ℕ → Verdict
 repairVerdict w h full mask frame outFrame outMask =
     frameVerdict w h full verdict.Clear mask frame (lengthOf w h outFrame ⨟ lengthOf w h outMask)

@@ -143,8 +143,8 @@ fn judge_find(
     ensures { λ r. ⌜ r ≡ findVerdict width height «full_scale» threshold (now (mask .entry)) (now (frame .entry)) out ⌝ }
 {
     let range = verdict::refuse_if(3, 0, 4095 < threshold);
-    let lent = window::length(width, height, out);
-    window::judge_frame(width, height, full_scale, range, mask, frame, lent)
+    let lengths = window::length(width, height, out);
+    window::judge_frame(width, height, full_scale, range, mask, frame, lengths)
 }
 
 pub fn find_defects(
@@ -265,8 +265,16 @@ fn judge_repair(
 {
     let lent_frame = window::length(width, height, out_frame);
     let lent_mask = window::length(width, height, out_mask);
-    let lent = verdict::then(lent_frame, lent_mask);
-    window::judge_frame(width, height, full_scale, Verdict::Clear, mask, frame, lent)
+    let lengths = verdict::then(lent_frame, lent_mask);
+    window::judge_frame(
+        width,
+        height,
+        full_scale,
+        Verdict::Clear,
+        mask,
+        frame,
+        lengths,
+    )
 }
 
 pub fn repair(

@@ -13,7 +13,7 @@ use Rattle.stack.specs.Sums.{sumsLong, impossibleIn, squared, added}
 use Rattle.stack.specs.declared.Added.{Added}
 use Rattle.stack.specs.declared.Added.the-variants.{Frames, Refused}
 
--- the refusals in their order
+-- the refusals in their order: 1 to 6, 3 of the count, 4 of the sums too, then 11 and 12
 unfoldable pub addVerdict : ℕ → ℕ → ℕ → ℕ → List ℕ → List ℕ → List ℕ → List ℕ → Verdict
 addVerdict w h full k mask frame sums squares =
     frameVerdict w h full (refuseIf 3 0 (ltb 100 k)) mask frame (sumsLong w h (length sums) (length squares))

@@ -20,7 +20,7 @@ jobVerdict s =
     ⨟ pairVerdict (widthOf s) (heightOf s) (fullOf s) (maskOf s) (firstOf s) (secondOf s)
     ⨟ darkVerdict (widthOf s) (heightOf s) (fullOf s) (blackOf s) (maskOf s) (firstOf s)
 
--- ---- the numbers of the library's calls on what stands in the stream
+-- ---- the figures of the library's calls on what stands in the stream, whether they refuse it or not
 abbrev pub varianceIn : List ℕ → VarianceFigures
 varianceIn s = varianceFigures (widthOf s) (heightOf s) (maskOf s) (firstOf s) (secondOf s)
 

@@ -10,7 +10,7 @@ abbrev pub answerOf : {A : Type 0} → Verdict → A → (Refusal → A) → A
 answerOf Clear accepted refused = accepted
 answerOf (Refused r) accepted refused = refused r
 
--- the paper's numbers of a call, of which F are its figures
+-- document 01's ("the paper's") numbers of a call: a refusal's number and place, and its figures, of type F
 pub record Paper (F : Type 0) : Type 0 where
   pub number : ℕ
   pub place : ℕ
@@ -23,10 +23,10 @@ acceptedPaper figures = record { number = 0; place = 0; figures = figures }
 abbrev pub refusedPaper : {F : Type 0} → Refusal → F → Paper F
 refusedPaper r zeros = record { number = r .number; place = r .place; figures = zeros }
 
--- for all inputs
+-- of a verdict: 0, 0 and the figures where nothing is refused, else the refusal's number and place, and the zeros
 abbrev pub paperFor : {F : Type 0} → Verdict → F → F → Paper F
 paperFor v figures zeros = record { number = numberOf v; place = placeOf v; figures = ifClear v figures zeros }
 
 -- the figures of a call that answers no number but a refusal's
-pub data NoFigures : Type 0 where
-  noFigures : NoFigures
+pub data Nothing : Type 0 where
+  nothing : Nothing

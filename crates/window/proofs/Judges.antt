@@ -27,9 +27,9 @@ pub record Framed (w h full : ℕ) (mask frame : List ℕ) : Type 0 where
   pub range : (i : ℕ) → i < sitesOf w h → seen mask frame i ≤ full
 
 module _ (w h full : ℕ) (mask : List ℕ) where
-  module _ {numbers lengths : Verdict} where
+  module _ {parameters lengths : Verdict} where
     -- what 1 to 5 let pass, with the call's own tests among them
-    pub mask-clear : maskVerdict w h full numbers mask lengths ≡ Clear → (numbers ≡ Clear) × (lengths ≡ Clear) × Masked w h full mask
+    pub mask-clear : maskVerdict w h full parameters mask lengths ≡ Clear → (parameters ≡ Clear) × (lengths ≡ Clear) × Masked w h full mask
     unfolding maskVerdict
     mask-clear e =
         let shape = then-clear _ _ e in
@@ -39,7 +39,7 @@ module _ (w h full : ℕ) (mask : List ℕ) where
         let legal = shape-clear w h full (shape .0) in
         (handed .0, lent .0, record { legal = legal .0; scaled = legal .1; masked = length-clear (sitesOf w h) (length mask) (masked .0); codes = codes-clear (sitesOf w h) mask (lent .1) })
 
-    pub clear-mask : Masked w h full mask → numbers ≡ Clear → lengths ≡ Clear → maskVerdict w h full numbers mask lengths ≡ Clear
+    pub clear-mask : Masked w h full mask → parameters ≡ Clear → lengths ≡ Clear → maskVerdict w h full parameters mask lengths ≡ Clear
     unfolding maskVerdict
     clear-mask m n l =
         clear-then (clear-shape w h full (m .legal) (m .scaled))
@@ -48,12 +48,12 @@ module _ (w h full : ℕ) (mask : List ℕ) where
         (clear-then l (clear-codes (sitesOf w h) mask (m .codes)))))
 
   -- 5 is asked of the whole window: 4 comes first
-  pub mask-judged : (numbers lengths : Verdict)
-      → shapeOf w h full ⨟ numbers ⨟ lengthOf w h (length mask) ⨟ lengths ⨟ codesOf (walked w h (length mask)) mask
-      ≡ maskVerdict w h full numbers mask lengths
+  pub mask-judged : (parameters lengths : Verdict)
+      → shapeOf w h full ⨟ parameters ⨟ lengthOf w h (length mask) ⨟ lengths ⨟ codesOf (walked w h (length mask)) mask
+      ≡ maskVerdict w h full parameters mask lengths
   unfolding maskVerdict
-  mask-judged numbers lengths =
-      then-same (shapeOf w h full) (λ _. then-same numbers (λ _.
+  mask-judged parameters lengths =
+      then-same (shapeOf w h full) (λ _. then-same parameters (λ _.
       measured (sitesOf w h) (length mask) (λ e. then-same lengths (λ _. codes-whole w h mask e))))
 
   -- what `judge_mask` answers of verdicts that are known
@@ -69,20 +69,20 @@ module _ (w h full : ℕ) (mask : List ℕ) where
 
   -- the table of 1 to 5, the call's own tests in their places
   abbrev pub mask-tests : List Test → List Test → List Test
-  mask-tests numbers lengths =
+  mask-tests parameters lengths =
       test 1 0 (badSides w h)
       ∷ test 2 0 (badScale full)
-      ∷ (numbers ++ (test 4 0 (otherThan (sitesOf w h) (length mask)) ∷ (lengths ++ (testFirst 5 (sitesOf w h) (badCode mask) ∷ []))))
+      ∷ (parameters ++ (test 4 0 (otherThan (sitesOf w h) (length mask)) ∷ (lengths ++ (testFirst 5 (sitesOf w h) (badCode mask) ∷ []))))
 
-  pub mask-tabled : {numbers lengths : Verdict} {ns ls : List Test} → Tabled numbers ns → Tabled lengths ls
-      → Tabled (maskVerdict w h full numbers mask lengths) (mask-tests ns ls)
+  pub mask-tabled : {parameters lengths : Verdict} {ns ls : List Test} → Tabled parameters ns → Tabled lengths ls
+      → Tabled (maskVerdict w h full parameters mask lengths) (mask-tests ns ls)
   unfolding maskVerdict refuseFirst
   mask-tabled n l = tabled-then (shape-tabled w h full) (tabled-then n (tabled-then (tabled _ []) (tabled-then l (tabled _ []))))
 
 module _ (w h full : ℕ) (mask frame : List ℕ) where
-  module _ {numbers lengths : Verdict} where
+  module _ {parameters lengths : Verdict} where
     -- and of a frame, 1 to 6
-    pub frame-clear : frameVerdict w h full numbers mask frame lengths ≡ Clear → (numbers ≡ Clear) × (lengths ≡ Clear) × Framed w h full mask frame
+    pub frame-clear : frameVerdict w h full parameters mask frame lengths ≡ Clear → (parameters ≡ Clear) × (lengths ≡ Clear) × Framed w h full mask frame
     unfolding frameVerdict
     frame-clear e =
         let all = then-clear _ _ e in
@@ -90,19 +90,19 @@ module _ (w h full : ℕ) (mask frame : List ℕ) where
         let lent = then-clear _ _ (masked .1) in
         (masked .0, lent .1, record { of = masked .2; framed = length-clear (sitesOf w h) (length frame) (lent .0); range = samples-clear (sitesOf w h) full (seen mask frame) (all .1) })
 
-    pub clear-frame : Framed w h full mask frame → numbers ≡ Clear → lengths ≡ Clear → frameVerdict w h full numbers mask frame lengths ≡ Clear
+    pub clear-frame : Framed w h full mask frame → parameters ≡ Clear → lengths ≡ Clear → frameVerdict w h full parameters mask frame lengths ≡ Clear
     unfolding frameVerdict
     clear-frame f n l =
         clear-then (clear-mask w h full mask (f .of) n (clear-then (clear-length (sitesOf w h) (length frame) (f .framed)) l))
         (clear-samples (sitesOf w h) full (seen mask frame) (f .range))
 
-  pub frame-judged : (numbers lengths : Verdict)
-      → maskVerdict w h full numbers mask (lengthOf w h (length frame) ⨟ lengths)
+  pub frame-judged : (parameters lengths : Verdict)
+      → maskVerdict w h full parameters mask (lengthOf w h (length frame) ⨟ lengths)
       ⨟ samplesOf (min (walked w h (length mask)) (walked w h (length frame))) full (seen mask frame)
-      ≡ frameVerdict w h full numbers mask frame lengths
+      ≡ frameVerdict w h full parameters mask frame lengths
   unfolding frameVerdict
-  frame-judged numbers lengths =
-      then-same (maskVerdict w h full numbers mask (lengthOf w h (length frame) ⨟ lengths)) (λ e.
+  frame-judged parameters lengths =
+      then-same (maskVerdict w h full parameters mask (lengthOf w h (length frame) ⨟ lengths)) (λ e.
       let masked = mask-clear w h full mask e in
       samples-whole w h full mask frame (masked .2 .masked) (length-clear (sitesOf w h) (length frame) (then-clear _ _ (masked .1) .0)))
 
@@ -116,11 +116,11 @@ module _ (w h full : ℕ) (mask frame : List ℕ) where
       (mask-lent w h full mask n (λ legal. ap (λ (v : Verdict). lengthOf w h (length frame) ⨟ v) (f legal)))
 
   abbrev pub frame-tests : List Test → List Test → List Test
-  frame-tests numbers lengths =
-      mask-tests w h full mask numbers (test 4 0 (otherThan (sitesOf w h) (length frame)) ∷ lengths)
+  frame-tests parameters lengths =
+      mask-tests w h full mask parameters (test 4 0 (otherThan (sitesOf w h) (length frame)) ∷ lengths)
       ++ (testFirst 6 (sitesOf w h) (above full (seen mask frame)) ∷ [])
 
-  pub frame-tabled : {numbers lengths : Verdict} {ns ls : List Test} → Tabled numbers ns → Tabled lengths ls
-      → Tabled (frameVerdict w h full numbers mask frame lengths) (frame-tests ns ls)
+  pub frame-tabled : {parameters lengths : Verdict} {ns ls : List Test} → Tabled parameters ns → Tabled lengths ls
+      → Tabled (frameVerdict w h full parameters mask frame lengths) (frame-tests ns ls)
   unfolding frameVerdict refuseFirst
   frame-tabled n l = tabled-then (mask-tabled w h full mask n (tabled-then (tabled _ []) l)) (tabled _ [])

@@ -1,4 +1,4 @@
--- Document 01, "Refusal numbers": the tests that calls share.
+-- Document 01, "Refusal parameters": the tests that calls share.
 use Prim.Native.Nat.{ℕ}
 use mathlib.Core.Bool.{Bool, cond, not}
 use mathlib.Core.List.{List}
@@ -30,20 +30,20 @@ codesOf n mask = refuseFirst 5 n (badCode mask)
 abbrev pub samplesOf : ℕ → ℕ → (ℕ → ℕ) → Verdict
 samplesOf n full view = refuseFirst 6 n (above full view)
 
--- 1 to 5 of a call with a mask, in their order. The call's own tests stand in their places: `numbers`, what else is handed in (3), and
--- `lengths`, what else is lent (4). Where it has none, they are `Clear`.
+-- 1 to 5 of a call with a mask, in their order. The call's own tests are handed in as verdicts: `parameters`, its 3, and `lengths`, its 4 of
+-- the other buffers that are lent; `Clear` where it has none.
 unfoldable pub maskVerdict : ℕ → ℕ → ℕ → Verdict → List ℕ → Verdict → Verdict
-maskVerdict w h full numbers mask lengths =
+maskVerdict w h full parameters mask lengths =
     shapeOf w h full
-    ⨟ numbers
+    ⨟ parameters
     ⨟ lengthOf w h (length mask)
     ⨟ lengths
     ⨟ codesOf (sitesOf w h) mask
 
 -- 1 to 6 of a call with a mask and a frame
 unfoldable pub frameVerdict : ℕ → ℕ → ℕ → Verdict → List ℕ → List ℕ → Verdict → Verdict
-frameVerdict w h full numbers mask frame lengths =
-    maskVerdict w h full numbers mask (lengthOf w h (length frame) ⨟ lengths)
+frameVerdict w h full parameters mask frame lengths =
+    maskVerdict w h full parameters mask (lengthOf w h (length frame) ⨟ lengths)
     ⨟ samplesOf (sitesOf w h) full (seen mask frame)
 
 -- the sites of a window that a buffer of this length lets be walked: all, where it has just as many, or none

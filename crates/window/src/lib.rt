@@ -1,4 +1,4 @@
-// What every call on a window shares: its sides and full scale, what is seen through a mask, and the refusals of both.
+// What every call on a window shares: its sides and full scale, what is seen through a mask, and refusals 1 to 6.
 ghost use mathlib.Core.Bool.{true, false};
 ghost use mathlib.Core.Path.{_≡_};
 ghost use Prim.Native.Nat.{_*_, _≤_, min};
@@ -217,22 +217,22 @@ pub fn samples(width: usize, height: usize, full_scale: u64, mask: &[u8], frame:
     verdict::refuse_if(6, place, place < n)
 }
 
-// Refusals 1 to 5 of a call with a mask, with the call's own for 3, `numbers`, and for 4, `lengths`, in their places.
+// Refusals 1 to 5 of a call with a mask, the call's own 3, `parameters`, and 4, `lengths`, in their places.
 pub fn judge_mask(
     width: usize,
     height: usize,
     full_scale: u64,
-    numbers: Verdict,
+    parameters: Verdict,
     mask: &[u8],
     lengths: Verdict,
 ) -> Verdict
-    ensures { λ r. ⌜ r ≡ maskVerdict width height «full_scale» numbers (now (mask .entry)) lengths ⌝ }
+    ensures { λ r. ⌜ r ≡ maskVerdict width height «full_scale» parameters (now (mask .entry)) lengths ⌝ }
 {
     let shaped = shape(width, height, full_scale);
     let masked = length(width, height, mask.len());
     let coded = codes(width, height, mask);
     let lent = verdict::then(masked, verdict::then(lengths, coded));
-    verdict::then(shaped, verdict::then(numbers, lent))
+    verdict::then(shaped, verdict::then(parameters, lent))
 }
 
 // Refusals 1 to 6 of a call with a mask and a frame, likewise.
@@ -240,15 +240,15 @@ pub fn judge_frame(
     width: usize,
     height: usize,
     full_scale: u64,
-    numbers: Verdict,
+    parameters: Verdict,
     mask: &[u8],
     frame: &[u16],
     lengths: Verdict,
 ) -> Verdict
-    ensures { λ r. ⌜ r ≡ frameVerdict width height «full_scale» numbers (now (mask .entry)) (now (frame .entry)) lengths ⌝ }
+    ensures { λ r. ⌜ r ≡ frameVerdict width height «full_scale» parameters (now (mask .entry)) (now (frame .entry)) lengths ⌝ }
 {
     let framed = verdict::then(length(width, height, frame.len()), lengths);
-    let masked = judge_mask(width, height, full_scale, numbers, mask, framed);
+    let masked = judge_mask(width, height, full_scale, parameters, mask, framed);
     let over = samples(width, height, full_scale, mask, frame);
     verdict::then(masked, over)
 }

@@ -30,7 +30,7 @@ returns c =
     then-of (c .then2 .ensures)
     (mask-of _ _ _ _ (masked .judge-mask .ensures) refl (then-of (framed .then .ensures) (framed .before .length .ensures) refl))
     (over .samples .ensures)
-    ∙ frame-judged (args .width) (args .height) (args .full-scale) (args .mask .now) (args .frame .now) (args .numbers) (args .lengths)
+    ∙ frame-judged (args .width) (args .height) (args .full-scale) (args .mask .now) (args .frame .now) (args .parameters) (args .lengths)
 
 pub judge-frame-spec : {M : Type 1} → statement M
 judge-frame-spec =

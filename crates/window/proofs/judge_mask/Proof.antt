@@ -36,7 +36,7 @@ returns c =
     (then-of (c .before .then3 .ensures) refl
     (then-of (c .before .before .then2 .ensures) (coded .before .length .ensures)
     (then-of (c .before .before .before .then .ensures) refl (coded .codes .ensures))))
-    ∙ mask-judged (args .width) (args .height) (args .full-scale) (args .mask .now) (args .numbers) (args .lengths)
+    ∙ mask-judged (args .width) (args .height) (args .full-scale) (args .mask .now) (args .parameters) (args .lengths)
 
 pub judge-mask-spec : {M : Type 1} → statement M
 judge-mask-spec =

@@ -2,7 +2,7 @@
 use mathlib.Core.Path.{sym, ap, _∙_}
 use borrow.Author.Needs.{needs}
 use Rattle.lines.specs.Marks.{paperOf}
-use Rattle.verdict.specs.Answer.{Paper, NoFigures}
+use Rattle.verdict.specs.Answer.{Paper, Nothing}
 use Rattle.tippovrain.proofs.marks.tip_defective_rows.Statement.{statement}
 use Rattle.tippovrain.proofs.marks.tip_defective_rows.Tie as tie
 
@@ -21,7 +21,7 @@ same-length c = search needs
 returns : tie.Need-returns
 returns c = let call = c .before .before .before .before .defective-rows .ensures in
     let e = sym (ap paperOf (c .enum-told .given .1)) ∙ call .1 .0 in
-    (ap (λ (p : Paper NoFigures). p .number) e, (ap (λ (p : Paper NoFigures). p .place) e, call .1 .1))
+    (ap (λ (p : Paper Nothing). p .number) e, (ap (λ (p : Paper Nothing). p .place) e, call .1 .1))
 
 same-length-2 : tie.Need-same-length-2
 same-length-2 c = search needs
@@ -29,7 +29,7 @@ same-length-2 c = search needs
 returns-2 : tie.Need-returns-2
 returns-2 c = let call = c .before .before .before .before .before .defective-rows .ensures in
     let e = sym (ap paperOf (c .before .refusal .given .1)) ∙ call .1 .0 in
-    (ap (λ (p : Paper NoFigures). p .number) e, (ap (λ (p : Paper NoFigures). p .place) e, call .1 .1))
+    (ap (λ (p : Paper Nothing). p .number) e, (ap (λ (p : Paper Nothing). p .place) e, call .1 .1))
 
 pub tip-defective-rows-spec : {M : Type 1} → statement M
 tip-defective-rows-spec =

@@ -1,7 +1,7 @@
 -- `tip_unpack_raw10` is right because it hands out the paper's numbers of the answer, each in its place.
 use mathlib.Core.Path.{sym, ap, _∙_}
 use borrow.Author.Needs.{needs}
-use Rattle.verdict.specs.Answer.{Paper, NoFigures}
+use Rattle.verdict.specs.Answer.{Paper, Nothing}
 use Rattle.raw.specs.Unpack.{paperOf}
 use Rattle.tippovrain.proofs.raw10.tip_unpack_raw10.Statement.{statement}
 use Rattle.tippovrain.proofs.raw10.tip_unpack_raw10.Tie as tie
@@ -21,7 +21,7 @@ same-length c = search needs
 returns : tie.Need-returns
 returns c = let call = c .before .before .before .before .unpack-raw10 .ensures in
     let e = sym (ap paperOf (c .enum-told .given .1)) ∙ call .1 .0 in
-    (ap (λ (p : Paper NoFigures). p .number) e, (ap (λ (p : Paper NoFigures). p .place) e, call .1 .1))
+    (ap (λ (p : Paper Nothing). p .number) e, (ap (λ (p : Paper Nothing). p .place) e, call .1 .1))
 
 same-length-2 : tie.Need-same-length-2
 same-length-2 c = search needs
@@ -29,7 +29,7 @@ same-length-2 c = search needs
 returns-2 : tie.Need-returns-2
 returns-2 c = let call = c .before .before .before .before .before .unpack-raw10 .ensures in
     let e = sym (ap paperOf (c .before .refusal .given .1)) ∙ call .1 .0 in
-    (ap (λ (p : Paper NoFigures). p .number) e, (ap (λ (p : Paper NoFigures). p .place) e, call .1 .1))
+    (ap (λ (p : Paper Nothing). p .number) e, (ap (λ (p : Paper Nothing). p .place) e, call .1 .1))
 
 pub tip-unpack-raw10-spec : {M : Type 1} → statement M
 tip-unpack-raw10-spec =
