@@ -9,10 +9,10 @@ use Rattle.exact.specs.Quotient.{quotientOrZero}
 use Rattle.exact.proofs.Quotients.{ranged-quotient}
 use Rattle.exact.proofs.Noises.{variance-ranged, noise-ranged}
 use Rattle.verdict.specs.declared.Refusal.{Refusal}
-use Rattle.verdict.specs.declared.Verdict.{Verdict}
 use Rattle.verdict.specs.declared.Verdict.the-variants as verdict
-use Rattle.pair.specs.Pair.{Figures, figuresOf, pairSpread, pairVerdict}
-use Rattle.pair.specs.Answers.{varianceAnswered, noiseAnswered, varianceAnswer, variancePaperOf, variancePaper, noiseAnswer, noisePaperOf, noisePaper}
+use Rattle.verdict.proofs.Answers.{was-accepted}
+use Rattle.pair.specs.Pair.{figuresOf, pairSpread, pairVerdict}
+use Rattle.pair.specs.Answers.{varianceAnswer, variancePaperOf, variancePaper, noiseAnswer, noisePaperOf, noisePaper}
 use Rattle.pair.specs.declared.Spread.{Spread}
 use Rattle.pair.specs.declared.Variance.the-variants as variance
 use Rattle.pair.specs.declared.Noise.the-variants as noise
@@ -57,29 +57,19 @@ module _ (w h full : ℕ) (mask first second : List ℕ) where
         rw (d, f, e, near, clear) (refl, refl)
 
 -- ---- from an accepted answer back to what it is of
-variance-of : (v : Verdict) (f : Figures) (p q : ℕ) (x : Float) → varianceAnswered v f ≡ variance.Figures p q x
-    → (v ≡ verdict.Clear) × (p ≡ f .p) × (q ≡ f .q) × (x ≡ f .variance)
-variance-of verdict.Clear f p q x e = (refl, cc, cc, cc)
-variance-of (verdict.Refused r) f p q x e = let z : _≡_ {A = ℕ} 0 1 = cc in absurd (omega arith)
-
-noise-of : (v : Verdict) (f : Figures) (x : Float) (r n : ℕ) → noiseAnswered v f ≡ noise.Figure x r n
-    → (v ≡ verdict.Clear) × (x ≡ f .noise) × (r ≡ f .r) × (n ≡ f .n)
-noise-of verdict.Clear f x r n e = (refl, cc, cc, cc)
-noise-of (verdict.Refused q) f x r n e = let z : _≡_ {A = ℕ} 0 1 = cc in absurd (omega arith)
-
 module _ {w h full : ℕ} {mask first second : List ℕ} where
   pub variance-was : (p q : ℕ) (x : Float) → varianceAnswer w h full mask first second ≡ variance.Figures p q x
       → Accepted w h full mask first second
       × (p ≡ pairSpread w h mask first second .p) × (q ≡ figuresOf (pairSpread w h mask first second) .q) × (x ≡ figuresOf (pairSpread w h mask first second) .variance)
   unfolding varianceAnswer
   variance-was p q x e =
-      let was = variance-of (pairVerdict w h full mask first second) (figuresOf (pairSpread w h mask first second)) p q x e in
-      (accepted (was .0), was .1, was .2, was .3)
+      let was = was-accepted (pairVerdict w h full mask first second) (λ f g. let z : _≡_ {A = ℕ} 0 1 = cc in absurd (omega arith)) e in
+      (accepted (was .0), cc, cc, cc)
 
   pub noise-was : (x : Float) (r n : ℕ) → noiseAnswer w h full mask first second ≡ noise.Figure x r n
       → Accepted w h full mask first second
       × (x ≡ figuresOf (pairSpread w h mask first second) .noise) × (r ≡ figuresOf (pairSpread w h mask first second) .r) × (n ≡ pairSpread w h mask first second .n)
   unfolding noiseAnswer
   noise-was x r n e =
-      let was = noise-of (pairVerdict w h full mask first second) (figuresOf (pairSpread w h mask first second)) x r n e in
-      (accepted (was .0), was .1, was .2, was .3)
+      let was = was-accepted (pairVerdict w h full mask first second) (λ f g. let z : _≡_ {A = ℕ} 0 1 = cc in absurd (omega arith)) e in
+      (accepted (was .0), cc, cc, cc)

@@ -1,7 +1,7 @@
 -- From the refusals to n and P: the tests that follow the walk are the rest of the one chain, and what passes them is measured.
 use Prim.Native.Nat.{ℕ, _^_, _≤_, _<_}
 use mathlib.Core.List.{List}
-use mathlib.Core.Path.{_≡_, refl, sym, ap, _∙_}
+use mathlib.Core.Path.{_≡_, sym, ap, _∙_}
 use native.Mathlib.Nat.{le-trans}
 use native.Mathlib.Omega.{arith}
 use lib.Dec.{leb, ltb}
@@ -13,15 +13,16 @@ use Rattle.laws.specs.Signed.{apart}
 use Rattle.laws.proofs.Squares.{squares}
 use Rattle.laws.proofs.Cases.{times-le}
 use Rattle.exact.proofs.Noises.{Measured}
-use Rattle.window.specs.Shape.{sitesOf}
-use Rattle.window.specs.View.{one, seen}
 use Rattle.verdict.specs.Verdict.{_⨟_, refuseIf}
 use Rattle.verdict.specs.declared.Refusal.{Refusal}
 use Rattle.verdict.specs.declared.Verdict.{Verdict}
 use Rattle.verdict.specs.declared.Verdict.the-variants as verdict
-use Rattle.window.proofs.Sides.{sites-few}
 use Rattle.verdict.proofs.Verdicts.{then-clear, then-end, unless}
-use Rattle.window.proofs.Views.{one-le}
+use Rattle.verdict.proofs.Answers.{was-accepted}
+use Rattle.window.specs.Shape.{sitesOf}
+use Rattle.window.specs.View.{one, seen}
+use Rattle.window.proofs.Sides.{scale, sites-few}
+use Rattle.window.proofs.Views.{surveyed-most}
 use Rattle.pair.specs.Pair.{spreadOf, pairSpread, framesVerdict, pairVerdict}
 use Rattle.pair.specs.Walk.{measurement}
 use Rattle.pair.specs.declared.Spread.{Spread}
@@ -38,18 +39,14 @@ pub last-exact : (s : Spread) → s .p < 2 ^ 53 → last s ≡ refuseIf 7 0 (ltb
 unfolding refuseIf
 last-exact s l = rw (lt-leb (2 ^ 53) (s .p) l) (then-end (refuseIf 7 0 (ltb (s .n) 2)))
 
--- there are no more surveyed sites than sites
-pub few-surveyed : (w h : ℕ) (mask : List ℕ) → sumTo (sitesOf w h) (one mask) ≤ 16384
-few-surveyed w h mask =
-    le-trans (sum-le (sitesOf w h) 1 (one mask) (λ k l. one-le mask k)) (omega (arith, sites-few w h))
-
 module _ (w h full : ℕ) (mask first second : List ℕ) where
   -- what the walk asks of the lengths
   pub lent : framesVerdict w h full mask first second ≡ verdict.Clear
       → (length mask ≤ 16384) × (length first ≡ length mask) × (length second ≡ length mask)
   lent e =
       let r = readable w h full mask first second e in
-      (omega (arith, sites-few w h, r .of-mask), r .of-first ∙ sym (r .of-mask), r .of-second ∙ sym (r .of-mask))
+      let whole = r .of-first .of .masked in
+      (omega (arith, sites-few w h, whole), r .of-first .framed ∙ sym whole, r .of-second .framed ∙ sym whole)
 
   pub frames-refused : (r : Refusal) → framesVerdict w h full mask first second ≡ verdict.Refused r
       → taken.Refused r ≡ measurement (pairVerdict w h full mask first second) (pairSpread w h mask first second)
@@ -60,7 +57,7 @@ module _ (w h full : ℕ) (mask first second : List ℕ) where
   module _ (s : Spread) (clear : framesVerdict w h full mask first second ≡ verdict.Clear)
       (e : s ≡ spreadOf (length mask) (one mask) (seen mask first) (seen mask second)) where
     same-spread : s ≡ pairSpread w h mask first second
-    same-spread = e ∙ ap (λ (n : ℕ). spreadOf n (one mask) (seen mask first) (seen mask second)) (readable w h full mask first second clear .of-mask)
+    same-spread = e ∙ ap (λ (n : ℕ). spreadOf n (one mask) (seen mask first) (seen mask second)) (readable w h full mask first second clear .of-first .of .masked)
 
     rest : last s ≡ pairVerdict w h full mask first second
     unfolding pairVerdict _⨟_
@@ -81,16 +78,17 @@ below-53 w h full mask first second r =
     let x = seen mask first in
     let y = seen mask second in
     let term : (i : ℕ) → i < N → squares x y i ≤ 16769025 = λ i l.
-    let d : apart (y i) (x i) ≤ 4095 = omega (arith, r .in-first i l, r .in-second i l, r .scaled .high) in
+    let d : apart (y i) (x i) ≤ 4095 = omega (arith, r .of-first .range i l, r .of-second .range i l, scale full (r .of-first .of .scaled) .high) in
     times-le (apart (y i) (x i)) (apart (y i) (x i)) 4095 4095 d d in
     let total : sumTo N (squares x y) ≤ 274743705600 = le-trans (sum-le N 16769025 (squares x y) term) (omega (arith, sites-few w h)) in
-    let product = times-le (sumTo N (one mask)) (sumTo N (squares x y)) 16384 274743705600 (few-surveyed w h mask) total in
+    let product = times-le (sumTo N (one mask)) (sumTo N (squares x y)) 16384 274743705600 (surveyed-most w h mask) total in
     omega (arith, spread-is mask first second N)
 
 -- what was measured, and what was refused
 pub was-taken : (v : Verdict) (s m : Spread) → measurement v s ≡ taken.Taken m → (v ≡ verdict.Clear) × (m ≡ s)
-was-taken verdict.Clear s m e = (refl, cc)
-was-taken (verdict.Refused r) s m e = let z : _≡_ {A = ℕ} 0 1 = cc in absurd (omega arith)
+was-taken v s m e =
+    let was = was-accepted v (λ r f. let z : _≡_ {A = ℕ} 0 1 = cc in absurd (omega arith)) e in
+    (was .0, cc)
 
 pub was-refused : (v : Verdict) (s : Spread) (r : Refusal) → measurement v s ≡ taken.Refused r → v ≡ verdict.Refused r
 was-refused verdict.Clear s r e = let z : _≡_ {A = ℕ} 0 1 = cc in absurd (omega arith)
@@ -112,7 +110,7 @@ module _ {w h full : ℕ} {mask first second : List ℕ} where
       record {
         frames = readable w h full mask first second (frames .0);
         two = ltb-false _ 2 (unless 7 0 _ (late .0));
-        few = few-surveyed w h mask;
+        few = surveyed-most w h mask;
         exact = leb-false (2 ^ 53) _ (unless 14 0 _ (late .1));
       }
 

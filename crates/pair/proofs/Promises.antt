@@ -18,16 +18,17 @@ use Rattle.exact.specs.Bound.{plain, CloseTo, NearRoot}
 use Rattle.exact.proofs.Roots.{root-is}
 use Rattle.exact.proofs.Quotients.{quotient-zero, zero-bits}
 use Rattle.exact.proofs.Noises.{variance-ranged, variance-near, noise-near, noise-plain, noise-zero}
+use Rattle.verdict.specs.Verdict.{_⨟_, refuseIf, refuseFirst}
+use Rattle.verdict.specs.declared.Verdict.the-variants as verdict
+use Rattle.verdict.proofs.Verdicts.{Test, Tabled, Refuses, test, testFirst, tabled, tabled-none, tabled-then, refuses, zero-clear, then-same}
+use Rattle.verdict.proofs.Answers.{paper-told}
 use Rattle.window.specs.Shape.{badSides, badScale, sitesOf}
 use Rattle.window.specs.View.{badCode, above, seen, one}
-use Rattle.verdict.specs.Verdict.{_⨟_, refuseIf, refuseFirst, numberOf, placeOf, ifClear}
-use Rattle.window.specs.Judge.{shapeOf, otherThan}
-use Rattle.verdict.specs.declared.Verdict.{Verdict}
-use Rattle.verdict.specs.declared.Verdict.the-variants as verdict
-use Rattle.verdict.proofs.Verdicts.{Test, Tabled, Refuses, test, testFirst, tabled, refuses, zero-clear, then-assoc, then-same}
+use Rattle.window.specs.Judge.{otherThan, frameVerdict}
 use Rattle.window.proofs.Views.{Agree, same-view}
-use Rattle.pair.specs.Pair.{difference, numerator, spreadOf, pairSpread, Figures, figuresOf, framesVerdict, pairVerdict}
-use Rattle.pair.specs.Answers.{varianceAnswered, varianceAnswer, variancePaperOf, variancePaper, noiseAnswered, noiseAnswer, noisePaperOf, noisePaper}
+use Rattle.window.proofs.Judges.{frame-tabled}
+use Rattle.pair.specs.Pair.{difference, numerator, spreadOf, pairSpread, framesVerdict, pairVerdict}
+use Rattle.pair.specs.Answers.{noVariance, varianceAnswer, variancePaperOf, variancePaper, noNoise, noiseAnswer, noisePaperOf, noisePaper}
 use Rattle.pair.specs.declared.Variance.the-variants as variance
 use Rattle.pair.specs.declared.Noise.the-variants as noise
 use Rattle.pair.proofs.Spreads.{SameDifference, whole, zero-same, same-zero}
@@ -57,23 +58,19 @@ module _ (w h full : ℕ) (mask first second : List ℕ) where
 
   -- given: both calls refuse exactly as document 01 tables it
   pub given : Tabled (pairVerdict w h full mask first second) tests
-  unfolding pairVerdict framesVerdict shapeOf refuseFirst
-  given = simp then-assoc (tabled _ _)
+  unfolding pairVerdict framesVerdict refuseFirst
+  given = tabled-then (tabled-then (frame-tabled w h full mask first tabled-none (tabled _ [])) (tabled _ [])) (tabled _ _)
 
   -- refused: where the number is not 0 every other number but the place is 0, and where it is 0 so is the place
   pub refused :
       Refuses (variancePaper w h full mask first second .number) (variancePaper w h full mask first second .place)
-      ((variancePaper w h full mask first second .p ≡ 0)
-      × (variancePaper w h full mask first second .q ≡ 0)
-      × (variancePaper w h full mask first second .variance ≡ ofBits binary64 0))
+      (variancePaper w h full mask first second .figures ≡ noVariance)
       × Refuses (noisePaper w h full mask first second .number) (noisePaper w h full mask first second .place)
-      ((noisePaper w h full mask first second .noise ≡ ofBits binary64 0)
-      × (noisePaper w h full mask first second .r ≡ 0)
-      × (noisePaper w h full mask first second .n ≡ 0))
+      (noisePaper w h full mask first second .figures ≡ noNoise)
   unfolding variancePaper noisePaper
   refused = (
-    refuses (pairVerdict w h full mask first second) given refl (λ r e. rw e (refl, refl, refl)),
-    refuses (pairVerdict w h full mask first second) given refl (λ r e. rw e (refl, refl, refl)),
+    refuses (pairVerdict w h full mask first second) given refl (λ r e. rw e),
+    refuses (pairVerdict w h full mask first second) given refl (λ r e. rw e),
   )
 
   -- 14 is never given: P stays below 2^53 for any two frames that 1 to 6 let pass, and no answer changes without the test
@@ -89,15 +86,10 @@ module _ (w h full : ℕ) (mask first second : List ℕ) where
   pub paper-is : (variancePaperOf (varianceAnswer w h full mask first second) ≡ variancePaper w h full mask first second)
       × (noisePaperOf (noiseAnswer w h full mask first second) ≡ noisePaper w h full mask first second)
   unfolding varianceAnswer variancePaper noiseAnswer noisePaper
-  paper-is = by (pairVerdict w h full mask first second) (figuresOf (pairSpread w h mask first second))
-    where
-      by : (v : Verdict) (f : Figures)
-          → (variancePaperOf (varianceAnswered v f)
-          ≡ record { number = numberOf v; place = placeOf v; p = ifClear v (f .p) 0; q = ifClear v (f .q) 0; variance = ifClear v (f .variance) (ofBits binary64 0) })
-          × (noisePaperOf (noiseAnswered v f)
-          ≡ record { number = numberOf v; place = placeOf v; noise = ifClear v (f .noise) (ofBits binary64 0); r = ifClear v (f .r) 0; n = ifClear v (f .n) 0 })
-      by verdict.Clear f = (refl, refl)
-      by (verdict.Refused r) f = (refl, refl)
+  paper-is = (
+    paper-told variancePaperOf (pairVerdict w h full mask first second) refl (λ r. refl),
+    paper-told noisePaperOf (pairVerdict w h full mask first second) refl (λ r. refl),
+  )
 
   -- both calls refuse alike
   pub alike : (variancePaper w h full mask first second .number ≡ noisePaper w h full mask first second .number)
@@ -108,9 +100,9 @@ module _ (w h full : ℕ) (mask first second : List ℕ) where
   -- and frames whose number is 0 are answered with figures by both
   pub both-answer : variancePaper w h full mask first second .number ≡ 0
       → (varianceAnswer w h full mask first second
-      ≡ variance.Figures (variancePaper w h full mask first second .p) (variancePaper w h full mask first second .q) (variancePaper w h full mask first second .variance))
+      ≡ variance.Figures (variancePaper w h full mask first second .figures .p) (variancePaper w h full mask first second .figures .q) (variancePaper w h full mask first second .figures .variance))
       × (noiseAnswer w h full mask first second
-      ≡ noise.Figure (noisePaper w h full mask first second .noise) (noisePaper w h full mask first second .r) (noisePaper w h full mask first second .n))
+      ≡ noise.Figure (noisePaper w h full mask first second .figures .noise) (noisePaper w h full mask first second .figures .r) (noisePaper w h full mask first second .figures .n))
   unfolding varianceAnswer variancePaper noiseAnswer noisePaper
   both-answer e = rw (zero-clear (pairVerdict w h full mask first second) given refl e) (refl, refl)
 
@@ -141,7 +133,7 @@ module _ (w h full : ℕ) (mask first second : List ℕ) where
       → (p ≡ 0 → SameDifference mask first second (length mask)) × (SameDifference mask first second (length mask) → p ≡ 0)
   flat p q x e =
       let was = variance-was p q x e in
-      rw (was .1, was .0 .frames .of-mask) (zero-same mask first second (sitesOf w h), same-zero mask first second (sitesOf w h))
+      rw (was .1, was .0 .frames .of-first .of .masked) (zero-same mask first second (sitesOf w h), same-zero mask first second (sitesOf w h))
 
   -- the float is within one part in 2^52 of P/Q
   pub near : (p q : ℕ) (x : Float) → varianceAnswer w h full mask first second ≡ variance.Figures p q x → CloseTo (2 ^ 52) x p q
@@ -183,7 +175,7 @@ module _ (w h full : ℕ) (mask first second : List ℕ) where
 pub blind : (w h full : ℕ) {mask first first′ second second′ : List ℕ} → Agree mask first first′ → Agree mask second second′
     → (varianceAnswer w h full mask first second ≡ varianceAnswer w h full mask first′ second′)
     × (noiseAnswer w h full mask first second ≡ noiseAnswer w h full mask first′ second′)
-unfolding varianceAnswer noiseAnswer pairVerdict framesVerdict
+unfolding varianceAnswer noiseAnswer pairVerdict framesVerdict frameVerdict
 blind w h full a b = rw (a .long, b .long, same-view a, same-view b) (refl, refl)
 
 -- one buffer given twice has P = 0, and both floats are 0

@@ -14,8 +14,8 @@ use Rattle.laws.specs.Sum.{sumTo}
 use Rattle.laws.specs.Signed.{_⊖_, apart}
 use Rattle.laws.proofs.Signeds.{⊖-sum, ⊖-squares, ⊖-square, ⊖-ge}
 use Rattle.laws.proofs.Squares.{Counted, squares, excess, schwarz, none-equal, equal-none}
-use Rattle.window.specs.View.{surveyed, seenAt, one, seen}
 use Rattle.laws.proofs.Cases.{times-le, true-or-false}
+use Rattle.window.specs.View.{surveyed, seenAt, one, seen}
 use Rattle.window.proofs.Views.{seen-in, seen-out, seen-is, one-is}
 use Rattle.pair.specs.Walk.{totalsOf}
 use Rattle.pair.specs.Pair.{difference, numerator, spreadOf}

@@ -9,8 +9,8 @@ use Rattle.laws.specs.Signed.{apart}
 use Rattle.laws.proofs.Squares.{squares}
 use Rattle.laws.proofs.Sums.{sum-none, sum-more}
 use Rattle.window.specs.View.{seenAt, one, seen}
-use Rattle.pair.specs.Walk.{totalsOf}
 use Rattle.window.proofs.Views.{seen-is, one-is, seen-le}
+use Rattle.pair.specs.Walk.{totalsOf}
 
 -- the sums n, a, b and q after i sites
 pub record Walked (mask first second : List ℕ) (i n a b q : ℕ) : Type 0 where

@@ -9,12 +9,12 @@ use Rattle.laws.specs.Sum.{sumTo}
 use Rattle.laws.specs.Signed.{_⊖_, sumToℤ}
 use Rattle.exact.specs.Root.{root}
 use Rattle.exact.specs.Quotient.{quotient}
-use Rattle.window.specs.Shape.{sitesOf}
-use Rattle.window.specs.View.{one, seen}
 use Rattle.verdict.specs.Verdict.{_⨟_, refuseIf}
-use Rattle.window.specs.Judge.{lengthOf, samplesOf, frameVerdict}
 use Rattle.verdict.specs.declared.Verdict.{Verdict}
 use Rattle.verdict.specs.declared.Verdict.the-variants as verdict
+use Rattle.window.specs.Shape.{sitesOf}
+use Rattle.window.specs.View.{one, seen}
+use Rattle.window.specs.Judge.{lengthOf, samplesOf, frameVerdict}
 use Rattle.pair.specs.declared.Spread.{Spread}
 
 -- d: second frame minus first at a surveyed site; at any other, both are seen as 0

@@ -2,8 +2,8 @@
 use Prim.Native.Nat.{ℕ, _*_}
 use Rattle.laws.specs.Sum.{sumTo}
 use Rattle.laws.specs.Signed.{apart}
+use Rattle.verdict.specs.Answer.{answerOf}
 use Rattle.verdict.specs.declared.Verdict.{Verdict}
-use Rattle.verdict.specs.declared.Verdict.the-variants as verdict
 use Rattle.pair.specs.declared.Spread.{Spread}
 use Rattle.pair.specs.declared.Totals.{Totals}
 use Rattle.pair.specs.declared.Measurement.{Measurement}
@@ -20,5 +20,4 @@ totalsOf sites one first second = record {
 
 -- n and P, or the refusal
 abbrev pub measurement : Verdict → Spread → Measurement
-measurement verdict.Clear s = taken.Taken s
-measurement (verdict.Refused r) s = taken.Refused r
+measurement v s = answerOf v (taken.Taken s) taken.Refused

@@ -52,7 +52,7 @@ fn judge(
 ) -> Verdict
     ensures { λ r. ⌜ r ≡ framesVerdict width height «full_scale» (now (mask .entry)) (now (first .entry)) (now (second .entry)) ⌝ }
 {
-    let lent = window::length(width, height, second.len());
+    let lengths = window::length(width, height, second.len());
     let of_first = window::judge_frame(
         width,
         height,
@@ -60,7 +60,7 @@ fn judge(
         Verdict::Clear,
         mask,
         first,
-        lent,
+        lengths,
     );
     let of_second = window::samples(width, height, full_scale, mask, second);
     verdict::then(of_first, of_second)

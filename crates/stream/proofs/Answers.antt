@@ -2,28 +2,25 @@
 use Prim.Native.Nat.{ℕ, _*_, _≤_}
 use mathlib.Core.List.{List}
 use mathlib.Core.Path.{_≡_, refl}
-use native.Mathlib.Nat.{le-trans}
 use native.Mathlib.Omega.{arith}
 use lib.Ieee.{Float}
 use lib.IntN.{ℤ}
-use Rattle.window.specs.Shape.{sitesOf}
 use Rattle.verdict.specs.Verdict.{_⨟_}
 use Rattle.verdict.specs.declared.Refusal.{Refusal}
 use Rattle.verdict.specs.declared.Verdict.{Verdict}
 use Rattle.verdict.specs.declared.Verdict.the-variants as verdict
-use Rattle.window.proofs.Sides.{sites-few}
-use Rattle.window.proofs.Views.{surveyed-few}
+use Rattle.window.proofs.Views.{surveyed-most}
 use Rattle.pair.specs.Pair.{spreadOf, pairVerdict}
-use Rattle.pair.specs.Answers.{varianceAnswer, variancePaper, noiseAnswer, noisePaperOf, noisePaper}
+use Rattle.pair.specs.Answers.{varianceAnswer, noiseAnswer, noisePaperOf, noisePaper}
 use Rattle.pair.specs.declared.Variance.{Variance}
 use Rattle.pair.specs.declared.Variance.the-variants as variance
 use Rattle.pair.specs.declared.Noise.{Noise}
 use Rattle.pair.specs.declared.Noise.the-variants as noise
-use Rattle.dark.specs.Dark.{darkVerdict, darkAnswer, darkPaper}
+use Rattle.dark.specs.Dark.{darkVerdict, darkAnswer}
 use Rattle.dark.specs.declared.Dark.{Dark}
 use Rattle.dark.specs.declared.Dark.the-variants as dark
 use Rattle.stream.specs.Stream.{widthOf, heightOf, fullOf, blackOf, maskOf, firstOf, secondOf, streamVerdict}
-use Rattle.stream.specs.Job.{jobVerdict, jobAnswer, paperOf, jobPaper}
+use Rattle.stream.specs.Job.{jobVerdict, jobAnswer}
 use Rattle.stream.specs.Walk.{together, directly}
 use Rattle.stream.specs.declared.Answer.the-variants.{Figures, Refused}
 
@@ -50,16 +47,16 @@ pub directly-same : (w h full black : ℕ) (mask : List ℕ) {first second first
 directly-same w h full black mask e f = rw (e, f)
 
 -- ---- n is few enough to be multiplied
-pub few-of : {x : Noise} {y : Float} {r n : ℕ} → x ≡ noise.Figure y r n → noisePaperOf x .n ≤ 16384 → n ≤ 16384
+pub few-of : {x : Noise} {y : Float} {r n : ℕ} → x ≡ noise.Figure y r n → noisePaperOf x .figures .n ≤ 16384 → n ≤ 16384
 few-of e h = rw e at h
 
-pub noise-few : (w h full : ℕ) (mask first second : List ℕ) → noisePaper w h full mask first second .n ≤ 16384
+pub noise-few : (w h full : ℕ) (mask first second : List ℕ) → noisePaper w h full mask first second .figures .n ≤ 16384
 unfolding noisePaper spreadOf
 noise-few w h full mask first second = by (pairVerdict w h full mask first second) refl
   where
-    by : (v : Verdict) → pairVerdict w h full mask first second ≡ v → noisePaper w h full mask first second .n ≤ 16384
+    by : (v : Verdict) → pairVerdict w h full mask first second ≡ v → noisePaper w h full mask first second .figures .n ≤ 16384
     by verdict.Clear e =
-        rw e (le-trans (surveyed-few mask (sitesOf w h)) (sites-few w h))
+        rw e (surveyed-most w h mask)
     by (verdict.Refused r) e = rw e (omega arith)
 
 -- ---- the job
@@ -72,7 +69,7 @@ module _ (s : List ℕ) where
   -- without one, the answer is that of the library's calls on what stands in the stream
   pub calls-are : streamVerdict s ≡ verdict.Clear
       → directly (widthOf s) (heightOf s) (fullOf s) (blackOf s) (maskOf s) (firstOf s) (secondOf s) ≡ jobAnswer s
-  unfolding jobAnswer jobVerdict varianceAnswer variancePaper noiseAnswer noisePaper darkAnswer darkPaper _⨟_
+  unfolding jobAnswer jobVerdict varianceAnswer noiseAnswer darkAnswer _⨟_
   calls-are clear = by (pairVerdict (widthOf s) (heightOf s) (fullOf s) (maskOf s) (firstOf s) (secondOf s)) (darkVerdict (widthOf s) (heightOf s) (fullOf s) (blackOf s) (maskOf s) (firstOf s)) refl refl
     where
       by : (p d : Verdict) → pairVerdict (widthOf s) (heightOf s) (fullOf s) (maskOf s) (firstOf s) (secondOf s) ≡ p
@@ -87,12 +84,3 @@ module _ (s : List ℕ) where
       → mask ≡ maskOf s → first ≡ firstOf s → second ≡ secondOf s
       → directly w h full black mask first second ≡ jobAnswer s
   work-is clear p q f b m x y = rw (p, q, f, b, m, x, y) (calls-are clear)
-
-  -- and its numbers are the paper's
-  pub paper-is : paperOf (jobAnswer s) ≡ jobPaper s
-  unfolding jobAnswer jobPaper
-  paper-is = by (jobVerdict s) refl
-    where
-      by : (v : Verdict) → jobVerdict s ≡ v → paperOf (jobAnswer s) ≡ jobPaper s
-      by verdict.Clear e = rw e
-      by (verdict.Refused r) e = rw e

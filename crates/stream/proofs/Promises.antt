@@ -3,26 +3,26 @@ use Prim.Native.Nat.{ℕ, _+_, _*_, _/_, _<_, _≤_}
 use mathlib.Core.List.{List, _∷_, _++_}
 use mathlib.Core.Path.{_≡_, refl, sym, ap, _∙_}
 use native.Mathlib.Omega.{arith}
-use lib.IntN.{ℤ, pos}
+use lib.IntN.{ℤ}
 use lib.ListN.{length, take, length-take, length-drop}
 use lib.Seq.{take-all}
 use Rattle.laws.proofs.Tables.{length-tabulate}
 use Rattle.laws.proofs.Sole.{Sole, sole}
-use Rattle.verdict.specs.Verdict.{refusal, _⨟_, numberOf, placeOf, ifClear}
+use Rattle.verdict.specs.Verdict.{refusal, _⨟_, ifClear}
 use Rattle.verdict.specs.declared.Verdict.{Verdict}
 use Rattle.verdict.specs.declared.Verdict.the-variants as verdict
 use Rattle.verdict.proofs.Verdicts.{Test, Tabled, Refuses, refuses, inTurn, tabled, tabled-then, then-same, then-clear}
+use Rattle.verdict.proofs.Answers.{paper-told, was-accepted}
 use Rattle.window.proofs.Views.{Agree}
 use Rattle.raw.specs.Packed.{sample10}
 use Rattle.raw.specs.Unpack.{unpackBuffer}
 use Rattle.pair.specs.Pair.{spreadOf, pairVerdict}
-use Rattle.pair.specs.Answers.{VariancePaper, NoisePaper, noisePaper}
 use Rattle.pair.proofs.Promises as pair
-use Rattle.dark.specs.Dark.{darkVerdict, Paper, darkPaper}
+use Rattle.dark.specs.Dark.{darkVerdict}
 use Rattle.dark.proofs.Promises as dark
 use Rattle.stream.specs.Fields.{bodyAt}
 use Rattle.stream.specs.Stream.{widthOf, heightOf, fullOf, blackOf, sitesIn, packedIn, firstField, secondField, unpacked, maskOf, firstOf, secondOf, streamVerdict}
-use Rattle.stream.specs.Job.{jobVerdict, varianceIn, noiseIn, darkIn, answered, jobAnswer, paperOf, jobPaper}
+use Rattle.stream.specs.Job.{jobVerdict, noFigures, jobFigures, jobAnswer, paperOf, jobPaper}
 use Rattle.stream.specs.Walk.{directly}
 use Rattle.stream.specs.declared.Answer.the-variants.{Figures, Refused}
 use Rattle.stream.proofs.Streams.{Faultless, faultless}
@@ -43,23 +43,7 @@ module _ (s : List ℕ) where
   -- the paper's numbers are those of the answer
   pub paper-is : paperOf (jobAnswer s) ≡ jobPaper s
   unfolding jobAnswer jobPaper
-  paper-is = by (jobVerdict s) (varianceIn s) (noiseIn s) (darkIn s)
-    where
-      by : (v : Verdict) (f : VariancePaper) (x : NoisePaper) (d : Paper)
-          → paperOf (answered v f x d)
-          ≡ record {
-            number = numberOf v;
-            place = placeOf v;
-            sites = ifClear v (x .n) 0;
-            p = ifClear v (f .p) 0;
-            q = ifClear v (f .q) 0;
-            r = ifClear v (x .r) 0;
-            rOver = ifClear v (64 * x .n) 0;
-            dark = ifClear v (d .numerator) (pos 0);
-            darkOver = ifClear v (d .denominator) 0;
-          }
-      by verdict.Clear f x d = refl
-      by (verdict.Refused r) f x d = refl
+  paper-is = paper-told paperOf (jobVerdict s) refl (λ r. refl)
 
   -- given: the faults of each field as they are met, 1 and 24 after field 2, 23; then what is left of the library's refusals, in its order
   abbrev pub tests : List Test
@@ -85,31 +69,25 @@ module _ (s : List ℕ) where
           (length-tabulate (sitesIn s) (sample10 (bodyAt s (secondField (sitesIn s)) (packedIn s))))
 
   -- refused: where the number is not 0 every other number but the place is 0, and where it is 0 so is the place
-  pub refused : Refuses (jobPaper s .number) (jobPaper s .place)
-      ((jobPaper s .sites ≡ 0) × (jobPaper s .p ≡ 0) × (jobPaper s .q ≡ 0) × (jobPaper s .r ≡ 0) × (jobPaper s .rOver ≡ 0) × (jobPaper s .dark ≡ pos 0) × (jobPaper s .darkOver ≡ 0))
+  pub refused : Refuses (jobPaper s .number) (jobPaper s .place) (jobPaper s .figures ≡ noFigures)
   unfolding jobPaper fieldsTests
-  refused = refuses (jobVerdict s) given refl (λ r e. rw e (refl, refl, refl, refl, refl, refl, refl))
+  refused = refuses (jobVerdict s) given refl (λ r e. rw e)
 
   -- the noise is over 64 × sites and the dark level over sites, so the other numbers tell all that is printed
-  pub over : (jobPaper s .rOver ≡ 64 * jobPaper s .sites) × (jobPaper s .darkOver ≡ jobPaper s .sites)
-  unfolding jobPaper jobVerdict noisePaper darkPaper spreadOf
-  over = by (jobVerdict s) refl
+  pub over : (jobPaper s .figures .rOver ≡ 64 * jobPaper s .figures .sites) × (jobPaper s .figures .darkOver ≡ jobPaper s .figures .sites)
+  unfolding jobPaper spreadOf
+  over = by (jobVerdict s)
     where
-      by : (v : Verdict) → jobVerdict s ≡ v → (jobPaper s .rOver ≡ 64 * jobPaper s .sites) × (jobPaper s .darkOver ≡ jobPaper s .sites)
-      by verdict.Clear e =
-          let judged = then-clear (streamVerdict s) _ e in
-          let calls = then-clear _ _ (judged .1) in
-          rw (e, calls .0, calls .1) (refl, refl)
-      by (verdict.Refused r) e = rw e (refl, refl)
+      by : (v : Verdict) → (ifClear v (jobFigures s) noFigures .rOver ≡ 64 * ifClear v (jobFigures s) noFigures .sites)
+          × (ifClear v (jobFigures s) noFigures .darkOver ≡ ifClear v (jobFigures s) noFigures .sites)
+      by verdict.Clear = (refl, refl)
+      by (verdict.Refused r) = (refl, refl)
 
   -- a stream that is answered with figures has no fault
   pub accepted : (n p q r over : ℕ) (level : ℤ) (under : ℕ) → jobAnswer s ≡ Figures n p q r over level under → streamVerdict s ≡ verdict.Clear
   unfolding jobAnswer jobVerdict
-  accepted n p q r over level under e = then-clear (streamVerdict s) _ (by (jobVerdict s) e) .0
-    where
-      by : (v : Verdict) → answered v (varianceIn s) (noiseIn s) (darkIn s) ≡ Figures n p q r over level under → v ≡ verdict.Clear
-      by verdict.Clear f = refl
-      by (verdict.Refused t) f = let z : _≡_ {A = ℕ} 0 1 = cc in absurd (omega arith)
+  accepted n p q r over level under e =
+      then-clear (streamVerdict s) _ (was-accepted (jobVerdict s) (λ t f. let z : _≡_ {A = ℕ} 0 1 = cc in absurd (omega arith)) e .0) .0
 
   -- ---- of a stream without a fault: its sides are legal and at most 64 (`Faultless`)
   module _ (clear : streamVerdict s ≡ verdict.Clear) where

@@ -1,8 +1,8 @@
 -- The tests of a job as one table: those of its fields, and of the library's only those that a stream without a fault leaves.
 use Prim.Native.Nat.{ℕ, _+_}
-use mathlib.Core.Bool.{Bool, false}
+use mathlib.Core.Bool.{false}
 use mathlib.Core.List.{List, [], _∷_, _++_}
-use mathlib.Core.Path.{_≡_, refl, sym, _∙_}
+use mathlib.Core.Path.{_≡_, ap₂, _∙_}
 use native.Mathlib.Omega.{arith}
 use lib.Dec.{ltb, eqb}
 use lib.ListN.{length, getD}
@@ -11,12 +11,14 @@ use Rattle.laws.specs.Sum.{sumTo}
 use Rattle.window.specs.Shape.{badSides, badScale, sitesOf}
 use Rattle.window.specs.View.{badCode, above, seen, one}
 use Rattle.verdict.specs.Verdict.{_⨟_, refuseIf, refuseFirst}
-use Rattle.window.specs.Judge.{shapeOf, otherThan, codesOf, samplesOf}
+use Rattle.window.specs.Judge.{shapeOf, otherThan, codesOf, samplesOf, maskVerdict, frameVerdict}
 use Rattle.verdict.specs.declared.Verdict.{Verdict}
 use Rattle.verdict.specs.declared.Verdict.the-variants.{Clear}
-use Rattle.window.proofs.Chains.{right-length}
-use Rattle.verdict.proofs.Verdicts.{Test, Tabled, test, testFirst, inTurn, tabled, tabled-none, tabled-then, skipped, then-assoc, then-same, then-clear, then-end, unless}
+use Rattle.window.proofs.Chains.{clear-shape, right-length, clear-length, clear-codes, clear-samples}
+use Rattle.window.proofs.Judges.{Framed}
+use Rattle.verdict.proofs.Verdicts.{Test, Tabled, test, testFirst, inTurn, tabled, tabled-none, tabled-then, skipped, then-assoc, then-same, then-clear, then-end, clear-first, unless, clear-unless}
 use Rattle.pair.specs.Pair.{spreadOf, pairSpread, framesVerdict, pairVerdict}
+use Rattle.pair.proofs.Frames.{readable}
 use Rattle.pair.proofs.Promises.{spare}
 use Rattle.dark.specs.Dark.{darkVerdict}
 use Rattle.stream.specs.Fields.{Field, past, wordAt, fieldAt, fieldsAt, pastAll}
@@ -65,14 +67,6 @@ module _ (s : List ℕ) where
         (tabled-then (fields-table 10 (bodyFields (sitesOf w h)))
         (tabled (test 23 (pastAll 10 (bodyFields (sitesOf w h))) (ltb (pastAll 10 (bodyFields (sitesOf w h))) (length s))) []))))
 
-clear-then : (v : Verdict) → Clear ⨟ v ≡ v
-unfolding _⨟_
-clear-then v = refl
-
-spared : (k p : ℕ) (b : Bool) → b ≡ false → refuseIf k p b ≡ Clear
-unfolding refuseIf
-spared k p b e = rw e
-
 -- ---- the library's, of a legal window and buffers of its length: of the pair 2, 5, 6 and 7 are left, and of the dark level 3
 abbrev pub scaleTest : ℕ → Test
 scaleTest full = test 2 0 (badScale full)
@@ -100,23 +94,25 @@ module _ (w h full black : ℕ) (mask first second : List ℕ) where
         ⨟ samplesOf (sitesOf w h) full (seen mask first)
         ⨟ samplesOf (sitesOf w h) full (seen mask second)
         ⨟ refuseIf 7 0 (ltb (pairSpread w h mask first second .n) 2)
-    unfolding framesVerdict shapeOf
+    unfolding framesVerdict frameVerdict maskVerdict shapeOf
     pair-left =
         spare w h full mask first second
         ∙ simp (then-assoc, legal, long (length mask) m, long (length first) f, long (length second) g)
 
+    -- a frame that the pair accepts leaves the dark level its own 3
+    own : {parameters : Verdict} → Framed w h full mask first → frameVerdict w h full parameters mask first Clear ≡ parameters
+    unfolding frameVerdict maskVerdict
+    own {parameters} of =
+        simp (clear-shape w h full (of .of .legal) (of .of .scaled), clear-length (sitesOf w h) (length mask) m, clear-length (sitesOf w h) (length first) f,
+        clear-codes (sitesOf w h) mask (of .of .codes), clear-samples (sitesOf w h) full (seen mask first) (of .range), clear-first, then-end)
+
     dark-left : pairVerdict w h full mask first second ≡ Clear → darkVerdict w h full black mask first ≡ refuseIf 3 0 (ltb full black)
-    unfolding darkVerdict shapeOf spreadOf
+    unfolding pairVerdict darkVerdict spreadOf
     dark-left e =
-        let n = sitesOf w h in
-        let few = refuseIf 7 0 (ltb (pairSpread w h mask first second .n) 2) in
-        let over = samplesOf n full (seen mask second) ⨟ few in
-        let scaled = then-clear (refuseIf 2 0 (badScale full)) (codesOf n mask ⨟ samplesOf n full (seen mask first) ⨟ over) (sym pair-left ∙ e) in
-        let coded = then-clear (codesOf n mask) (samplesOf n full (seen mask first) ⨟ over) (scaled .1) in
-        let ranged = then-clear (samplesOf n full (seen mask first)) over (coded .1) in
-        let two = ltb-false (sumTo n (one mask)) 2 (unless 7 0 _ (then-clear (samplesOf n full (seen mask second)) few (ranged .1) .1)) in
-        let some = spared 7 0 (eqb (sumTo n (one mask)) 0) (ne-eqb (sumTo n (one mask)) 0 (λ z. omega arith)) in
-        simp (legal, long (length mask) m, long (length first) f, scaled .0, coded .0, ranged .0, some, clear-then, then-end)
+        let frames = then-clear _ _ e in
+        let two = ltb-false (sumTo (sitesOf w h) (one mask)) 2 (unless 7 0 _ (then-clear _ _ (frames .1) .0)) in
+        let some = clear-unless 7 0 (ne-eqb (sumTo (sitesOf w h) (one mask)) 0 (λ z. omega arith)) in
+        ap₂ (λ (a b : Verdict). a ⨟ b) (own (readable w h full mask first second (frames .0) .of-first)) some ∙ then-end _
 
     pub left-is : pairVerdict w h full mask first second ⨟ darkVerdict w h full black mask first ≡ inTurn (scaleTest full) leftTests
     unfolding refuseFirst

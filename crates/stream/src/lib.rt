@@ -132,7 +132,7 @@ fn frame_of(width: usize, height: usize, body: &[u8]) -> [u16; 4096]
 
 // Three answers as one: the first refusal, or what is printed.
 fn together(variance: Variance, noise: Noise, dark: Dark) -> Answer
-    requires { ⌜ noisePaperOf noise .n ≤ 16384 ⌝ }
+    requires { ⌜ noisePaperOf noise .figures .n ≤ 16384 ⌝ }
     ensures { λ r. ⌜ r ≡ together variance noise dark ⌝ }
 {
     match variance {

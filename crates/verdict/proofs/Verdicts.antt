@@ -41,6 +41,10 @@ unfolding _⨟_
 then-assoc Clear b d = refl
 then-assoc (Refused r) b d = refl
 
+pub clear-first : (a : Verdict) → Clear ⨟ a ≡ a
+unfolding _⨟_
+clear-first a = refl
+
 pub then-end : (a : Verdict) → a ⨟ Clear ≡ a
 unfolding _⨟_
 then-end Clear = refl

@@ -3,13 +3,15 @@ use Prim.Native.Nat.{ℕ, _+_, _*_, _≤_, zero-le}
 use mathlib.Core.Bool.{Bool, true, false, cond}
 use mathlib.Core.List.{List}
 use mathlib.Core.Path.{_≡_, refl, fun-ext}
-use native.Mathlib.Nat.{mul-zero}
+use native.Mathlib.Nat.{le-trans, mul-zero}
 use native.Mathlib.Omega.{arith}
 use lib.ListN.{length, getD}
 use borrow.Author.Tests.{eq-eqb, ne-eqb}
 use Rattle.laws.specs.Sum.{sumTo}
 use Rattle.laws.proofs.Sums.{sum-le}
+use Rattle.window.specs.Shape.{sitesOf}
 use Rattle.window.specs.View.{surveyed, seenAt, seen, one}
+use Rattle.window.proofs.Sides.{sites-few}
 
 module _ (code value : ℕ) where
   pub seen-in : code ≡ 0 → seenAt code value ≡ value
@@ -43,6 +45,9 @@ one-le mask i = rw one-is (seen-le (getD mask i 0) 1 1 (omega arith))
 -- no more sites are surveyed than there are
 pub surveyed-few : (mask : List ℕ) (n : ℕ) → sumTo n (one mask) ≤ n
 surveyed-few mask n = omega (arith, sum-le n 1 (one mask) (λ i l. one-le mask i))
+
+pub surveyed-most : (w h : ℕ) (mask : List ℕ) → sumTo (sitesOf w h) (one mask) ≤ 16384
+surveyed-most w h mask = le-trans (surveyed-few mask (sitesOf w h)) (sites-few w h)
 
 -- samples that are at most B where their site is surveyed
 pub seen-most : (mask frame : List ℕ) (B i : ℕ) → (surveyed (getD mask i 0) ≡ true → getD frame i 0 ≤ B) → seen mask frame i ≤ B

@@ -1,4 +1,4 @@
--- Document 01, "Refusal parameters": the tests that calls share.
+-- Document 01, "Refusal numbers": the tests that calls share.
 use Prim.Native.Nat.{ℕ}
 use mathlib.Core.Bool.{Bool, cond, not}
 use mathlib.Core.List.{List}

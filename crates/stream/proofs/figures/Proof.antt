@@ -2,7 +2,8 @@
 use mathlib.Core.Path.{ap, _∙_}
 use native.Mathlib.Omega.{arith}
 use borrow.Author.Needs.{needs}
-use Rattle.pair.specs.Answers.{NoisePaper}
+use Rattle.verdict.specs.Answer.{Paper}
+use Rattle.pair.specs.Answers.{NoiseFigures}
 use Rattle.stream.proofs.Answers.{together-same, noise-few}
 use Rattle.stream.proofs.figures.Statement.{statement}
 use Rattle.stream.proofs.figures.Tie as tie
@@ -18,7 +19,7 @@ dark-level-requires c κs = search needs
 
 together-requires : tie.Need-together-requires
 together-requires c κs = let a = c .before .before .before .before .before .before .args in
-    omega (arith, ap (λ (p : NoisePaper). p .n) (c .before .pair-noise .ensures .1), noise-few (a .width) (a .height) (a .full-scale) (a .mask .now) (a .first .now) (a .second .now))
+    omega (arith, ap (λ (p : Paper NoiseFigures). p .figures .n) (c .before .pair-noise .ensures .1), noise-few (a .width) (a .height) (a .full-scale) (a .mask .now) (a .first .now) (a .second .now))
 
 returns : tie.Need-returns
 returns c = c .together .ensures ∙ together-same (c .before .before .before .pair-variance .ensures .0) (c .before .before .pair-noise .ensures .0) (c .before .dark-level .ensures .0)

@@ -1,7 +1,8 @@
 -- `job` is right because a fault of the stream is its answer, and without one the answer is that of the library's calls.
 use mathlib.Core.Path.{sym, ap, _∙_}
 use borrow.Author.Needs.{needs}
-use Rattle.stream.proofs.Answers.{fault-is, paper-is}
+use Rattle.stream.proofs.Answers.{fault-is}
+use Rattle.stream.proofs.Promises.{paper-is}
 use Rattle.stream.proofs.Streams.{judged}
 use Rattle.stream.specs.Job.{paperOf}
 use Rattle.stream.proofs.job.Statement.{statement}
