@@ -1,28 +1,30 @@
 -- The verdict, over the direction, and what it makes of the answer, its numbers and the buffer.
-use Prim.Native.Nat.{ℕ, _*_, min, _≤_, _<_}
+use Prim.Native.Nat.{ℕ, _*_, _≤_, _<_}
 use mathlib.Core.Bool.{Bool, true, false}
 use mathlib.Core.List.{List, [], _∷_}
-use mathlib.Core.Path.{_≡_, refl}
+use mathlib.Core.Path.{_≡_, refl, ap}
 use native.Mathlib.Nat.{mul-le-mul}
 use native.Mathlib.Omega.{arith}
 use lib.Dec.{ltb}
 use lib.ListN.{length}
 use borrow.Author.Tests.{ltb-false}
 use Rattle.laws.specs.Table.{tabulate}
-use Rattle.window.specs.Shape.{badSides, badScale, sitesOf}
-use Rattle.window.specs.View.{badCode, above, seen, one}
-use Rattle.verdict.specs.Verdict.{refusal, _⨟_, refuseIf, refuseFirst}
-use Rattle.window.specs.Judge.{shapeOf, otherThan, codesOf, samplesOf, walked}
+use Rattle.verdict.specs.Verdict.{_⨟_, refuseIf}
 use Rattle.verdict.specs.declared.Refusal.{Refusal}
 use Rattle.verdict.specs.declared.Verdict.{Verdict}
 use Rattle.verdict.specs.declared.Verdict.the-variants as verdict
+use Rattle.verdict.proofs.Verdicts.{Test, Tabled, test, testFirst, tabled, tabled-none, tabled-then, then-clear, unless}
+use Rattle.verdict.proofs.Answers.{was-accepted}
+use Rattle.window.specs.Shape.{badSides, badScale, sitesOf}
+use Rattle.window.specs.View.{badCode, above, seen, one}
+use Rattle.window.specs.Judge.{otherThan, frameVerdict, walked}
 use Rattle.window.proofs.Sides.{Sides, sides}
 use Rattle.window.proofs.Walks.{walked-whole}
-use Rattle.verdict.proofs.Verdicts.{Test, Tabled, test, testFirst, tabled, passed-head, passed-tail, then-same}
-use Rattle.window.proofs.Chains.{shape-then, shape-clear, same-length, measured, codes-whole, samples-whole}
+use Rattle.window.proofs.Chains.{length-clear}
+use Rattle.window.proofs.Judges.{frame-clear, frame-lent, frame-tabled}
 use Rattle.lines.specs.Lines.{Lines, markAt}
 use Rattle.lines.specs.Walk.{lined}
-use Rattle.lines.specs.Marks.{marksOf, linesVerdict, answered, linesAnswer, linesPaper, linesBuffer}
+use Rattle.lines.specs.Marks.{marksOf, linesVerdict, linesAnswer, paperOf, linesPaper, linesBuffer}
 use Rattle.lines.specs.declared.Marked.the-variants.{Done, Refused}
 
 -- no plane has more than 64 lines
@@ -30,22 +32,16 @@ pub few-lines : (vertical : Bool) (w h : ℕ) → Sides w h → lined vertical w
 few-lines true w h legal = omega (arith, legal .wide .high)
 few-lines false w h legal = omega (arith, legal .high .high)
 
--- what is judged of buffers of another length, or of more lines than a plane has, does not matter: 1 and 4 come first
+-- how many marks are needed is asked of legal sides alone, so of no more lines than a plane has: 1 comes first
 pub judged : (vertical : Bool) (w h full : ℕ) (mask frame : List ℕ) (marks needed : ℕ)
     → (lined vertical w h .count ≤ 64 → needed ≡ marksOf (lined vertical w h))
-    → shapeOf w h full
-    ⨟ refuseIf 4 0 (otherThan (sitesOf w h) (length mask))
-    ⨟ refuseIf 4 0 (otherThan (sitesOf w h) (length frame))
-    ⨟ refuseIf 4 0 (otherThan needed marks)
-    ⨟ codesOf (walked w h (length mask)) mask
-    ⨟ samplesOf (min (walked w h (length mask)) (walked w h (length frame))) full (seen mask frame)
-    ⨟ refuseIf 9 0 (ltb (lined vertical w h .count) 9)
+    → frameVerdict w h full verdict.Clear mask frame (refuseIf 4 0 (otherThan needed marks)) ⨟ refuseIf 9 0 (ltb (lined vertical w h .count) 9)
     ≡ linesVerdict (lined vertical) w h full mask frame marks
 unfolding linesVerdict
 judged vertical w h full mask frame marks needed few =
-    then-same (shapeOf w h full) (λ clear.
-    measured (sitesOf w h) (length mask) (λ e. measured (sitesOf w h) (length frame) (λ f.
-    rw (few (few-lines vertical w h (shape-clear w h full clear .0)), codes-whole w h mask e, samples-whole w h full mask frame e f))))
+    ap (λ (v : Verdict). v ⨟ refuseIf 9 0 (ltb (lined vertical w h .count) 9))
+    (frame-lent w h full mask frame verdict.Clear
+    (λ legal. ap (λ (n : ℕ). refuseIf 4 0 (otherThan n marks)) (few (few-lines vertical w h (sides w h legal)))))
 
 module _ (lines : ℕ → ℕ → Lines) (w h full : ℕ) (mask frame : List ℕ) (marks : ℕ) where
   -- the tests in the order of document 01
@@ -62,8 +58,8 @@ module _ (lines : ℕ → ℕ → Lines) (w h full : ℕ) (mask frame : List ℕ
       ∷ []
 
   pub table : Tabled (linesVerdict lines w h full mask frame marks) tests
-  unfolding linesVerdict refuseFirst
-  table = rw shape-then (tabled _ _)
+  unfolding linesVerdict
+  table = tabled-then (frame-tabled w h full mask frame tabled-none (tabled _ [])) (tabled _ [])
 
   -- what an accepted call's numbers are
   pub record Accepted : Type 0 where
@@ -74,25 +70,21 @@ module _ (lines : ℕ → ℕ → Lines) (w h full : ℕ) (mask frame : List ℕ
     pub nine : 9 ≤ lines w h .count
 
   pub accepted : linesVerdict lines w h full mask frame marks ≡ verdict.Clear → Accepted
+  unfolding linesVerdict
   accepted e =
-      let p₁ = table .clear e in
-      let p₄ = passed-tail (passed-tail p₁) in
-      let p₅ = passed-tail (passed-tail (passed-tail p₄)) in
+      let both = then-clear _ _ e in
+      let lent = frame-clear w h full mask frame (both .0) in
       record {
-        legal = sides w h (passed-head p₁);
-        masked = same-length (sitesOf w h) (length mask) (passed-head p₄);
-        framed = same-length (sitesOf w h) (length frame) (passed-head (passed-tail p₄));
-        marked = same-length (marksOf (lines w h)) marks (passed-head (passed-tail (passed-tail p₄)));
-        nine = ltb-false (lines w h .count) 9 (passed-head (passed-tail (passed-tail p₅)));
+        legal = sides w h (lent .2 .of .legal);
+        masked = lent .2 .of .masked;
+        framed = lent .2 .framed;
+        marked = length-clear (marksOf (lines w h)) marks (lent .1);
+        nine = ltb-false (lines w h .count) 9 (unless 9 0 _ (both .1));
       }
 
   pub done-clear : linesAnswer lines w h full mask frame marks ≡ Done → linesVerdict lines w h full mask frame marks ≡ verdict.Clear
   unfolding linesAnswer
-  done-clear = by (linesVerdict lines w h full mask frame marks)
-    where
-      by : (v : Verdict) → answered v ≡ Done → v ≡ verdict.Clear
-      by verdict.Clear q = refl
-      by (verdict.Refused r) q = let z : _≡_ {A = ℕ} 0 1 = cc in absurd (omega arith)
+  done-clear e = was-accepted (linesVerdict lines w h full mask frame marks) (λ r f. let z : _≡_ {A = ℕ} 0 1 = cc in absurd (omega arith)) e .0
 
 -- so there is what marking needs
 pub ready : (vertical : Bool) (w h full : ℕ) (mask frame : List ℕ) (marks n : ℕ)
@@ -114,13 +106,13 @@ ready vertical w h full mask frame marks n e c =
 module _ (lines : ℕ → ℕ → Lines) (w h full : ℕ) (mask frame marks : List ℕ) where
   pub refused-is : (r : Refusal) → linesVerdict lines w h full mask frame (length marks) ≡ verdict.Refused r
       → (Refused r ≡ linesAnswer lines w h full mask frame (length marks))
-      × ((r ≡ linesPaper lines w h full mask frame (length marks)) × (marks ≡ linesBuffer lines w h full mask frame marks))
+      × ((paperOf (Refused r) ≡ linesPaper lines w h full mask frame (length marks)) × (marks ≡ linesBuffer lines w h full mask frame marks))
   unfolding linesAnswer linesPaper linesBuffer
   refused-is r e = rw e (refl, (refl, refl))
 
   pub accepted-is : linesVerdict lines w h full mask frame (length marks) ≡ verdict.Clear
       → (Done ≡ linesAnswer lines w h full mask frame (length marks))
-      × ((refusal 0 0 ≡ linesPaper lines w h full mask frame (length marks))
+      × ((paperOf Done ≡ linesPaper lines w h full mask frame (length marks))
       × (tabulate (length marks) (markAt (lines w h) w h (one mask) (seen mask frame)) ≡ linesBuffer lines w h full mask frame marks))
   unfolding linesAnswer linesPaper linesBuffer
   accepted-is e = rw e (refl, (refl, refl))

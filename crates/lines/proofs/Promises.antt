@@ -11,16 +11,16 @@ use lib.ListN.{length, getD}
 use Rattle.laws.specs.Table.{tabulate}
 use Rattle.laws.proofs.Tables.{getD-tabulate, tabulate-ext}
 use Rattle.laws.proofs.Sole.{Sole, sole}
-use Rattle.window.specs.View.{surveyed, seen, one}
-use Rattle.plane.specs.Plane.{siteAt}
-use Rattle.verdict.specs.Verdict.{refusal, numberOf, placeOf}
-use Rattle.verdict.specs.declared.Verdict.{Verdict}
 use Rattle.verdict.specs.declared.Verdict.the-variants as verdict
-use Rattle.plane.proofs.Planes.{site-in}
 use Rattle.verdict.proofs.Verdicts.{Tabled, Refuses, refuses}
+use Rattle.verdict.proofs.Answers.{paper-told}
+use Rattle.window.specs.View.{surveyed, seen, one}
+use Rattle.window.specs.Judge.{frameVerdict}
 use Rattle.window.proofs.Views.{Agree, same-view}
+use Rattle.plane.specs.Plane.{siteAt}
+use Rattle.plane.proofs.Planes.{site-in}
 use Rattle.lines.specs.Lines.{Lines, rows, columns, markOf, lineSum, markAt}
-use Rattle.lines.specs.Marks.{linesVerdict, answered, linesAnswer, paperOf, linesPaper, linesBuffer}
+use Rattle.lines.specs.Marks.{linesVerdict, linesAnswer, paperOf, linesPaper, linesBuffer}
 use Rattle.lines.specs.declared.Marked.the-variants.{Done}
 use Rattle.lines.proofs.Pools.{mark-line}
 use Rattle.lines.proofs.Marking.{Accepted, tests, table, accepted, accepted-is, done-clear}
@@ -35,11 +35,7 @@ module _ (lines : ℕ → ℕ → Lines) (w h full : ℕ) (mask frame marks : Li
   -- the paper's numbers are those of the answer
   pub paper-is : paperOf (linesAnswer lines w h full mask frame (length marks)) ≡ linesPaper lines w h full mask frame (length marks)
   unfolding linesAnswer linesPaper
-  paper-is = by (linesVerdict lines w h full mask frame (length marks))
-    where
-      by : (v : Verdict) → paperOf (answered v) ≡ refusal (numberOf v) (placeOf v)
-      by verdict.Clear = refl
-      by (verdict.Refused r) = refl
+  paper-is = paper-told paperOf (linesVerdict lines w h full mask frame (length marks)) refl (λ r. refl)
 
   -- given: 1, 2, 4, 5, 6 and 9 exactly as document 01 tables them, in that order (`tests` has the table)
   pub given : Tabled (linesVerdict lines w h full mask frame (length marks)) (tests lines w h full mask frame (length marks))
@@ -55,7 +51,7 @@ module _ (lines : ℕ → ℕ → Lines) (w h full : ℕ) (mask frame marks : Li
   pub blind : (other : List ℕ) → Agree mask frame other
       → (linesAnswer lines w h full mask frame (length marks) ≡ linesAnswer lines w h full mask other (length marks))
       × (linesBuffer lines w h full mask frame marks ≡ linesBuffer lines w h full mask other marks)
-  unfolding linesAnswer linesBuffer linesVerdict
+  unfolding linesAnswer linesBuffer linesVerdict frameVerdict
   blind other a = (rw (a .long, same-view a), rw (a .long, same-view a))
 
   -- of an accepted call

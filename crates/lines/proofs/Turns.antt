@@ -1,32 +1,26 @@
 -- The window turned over its diagonal: its rows are the columns of the window, so one proof serves both.
 use Prim.Native.Nat.{ℕ, _+_, _*_, _/_, _%_, _<_, _≤_}
-use mathlib.Core.Bool.{Bool, true, false, not, _||_}
 use mathlib.Core.List.{List}
 use mathlib.Core.Path.{_≡_, refl, sym, ap, ap₂, _∙_}
 use native.Mathlib.Nat.{mod-lt, mul-comm, div-lt-iff-lt-mul}
 use native.Mathlib.Omega.{arith}
 use lib.Arith.{digits-lt}
-use lib.Dec.{ltb}
 use lib.ListN.{length, getD}
-use borrow.Author.Tests.{eq-eqb}
 use Rattle.laws.specs.Table.{tabulate}
-use Rattle.laws.proofs.Cases.{not-both}
-use Rattle.laws.proofs.Firsts.{nowhere-first, first-nowhere}
 use Rattle.laws.proofs.Sums.{box-ext, box-turned}
 use Rattle.laws.proofs.Tables.{length-tabulate, getD-tabulate}
-use Rattle.window.specs.Shape.{badSide, badSides, sitesOf}
-use Rattle.window.specs.View.{badCode, above, seenAt, seen, one}
-use Rattle.window.specs.Judge.{otherThan}
-use Rattle.plane.specs.Plane.{rowParity, columnParity, siteAt, boxSum}
 use Rattle.verdict.specs.declared.Verdict.the-variants as verdict
-use Rattle.window.proofs.Sides.{sides}
+use Rattle.verdict.proofs.Verdicts.{then-clear, clear-then}
+use Rattle.window.specs.Shape.{sitesOf}
+use Rattle.window.specs.View.{seenAt, seen, one}
+use Rattle.window.proofs.Sides.{sides, turned-sides, turned-sites}
 use Rattle.window.proofs.Views.{seen-is, one-is}
+use Rattle.window.proofs.Judges.{Masked, Framed, frame-clear, clear-frame}
+use Rattle.plane.specs.Plane.{rowParity, columnParity, siteAt, boxSum}
 use Rattle.plane.proofs.Planes.{site-in, site-row, site-column}
-use Rattle.verdict.proofs.Verdicts.{past, end, passed-head, passed-tail}
 use Rattle.lines.specs.Lines.{rows, columns, markOf, lineSum}
 use Rattle.lines.specs.Marks.{linesVerdict}
 use Rattle.lines.proofs.Pools.{mark-ext}
-use Rattle.lines.proofs.Marking.{table}
 
 -- the window w wide and h high, turned, is h wide and w high: its site i comes from the site in row i % h and column i / h
 abbrev pub turnedSite : ℕ → ℕ → ℕ → ℕ
@@ -88,35 +82,28 @@ module _ (w h : ℕ) (some : 0 < h) where
       (λ m b. turned-line _ _ (turned-one mask) plane m)
       (λ m b. turned-line _ _ (turned-seen mask frame) plane m)
 
-bad-turned : (w h : ℕ) → badSides w h ≡ false → badSides h w ≡ false
-unfolding badSides
-bad-turned w h = by (badSide w) (badSide h)
-  where
-    by : (a b : Bool) → (a || b) ≡ false → (b || a) ≡ false
-    by true b e = absurd (not-both refl e)
-    by false true e = e
-    by false false e = refl
-
 -- the turned window is accepted where the window is
 pub turned-accepted : (w h full : ℕ) (mask frame : List ℕ) (marks : ℕ)
     → linesVerdict columns w h full mask frame marks ≡ verdict.Clear
     → linesVerdict rows h w full (turned w h mask) (turned w h frame) marks ≡ verdict.Clear
+unfolding linesVerdict
 turned-accepted w h full mask frame marks e =
-    let p₁ = table columns w h full mask frame marks .clear e in
-    let p₂ = passed-tail p₁ in
-    let p₅ = passed-tail (passed-tail (passed-tail p₂)) in
-    let p₆ = passed-tail p₅ in
-    let p₇ = passed-tail p₆ in
-    let legal = sides w h (passed-head p₁) in
-    let over = bad-turned w h (passed-head p₁) in
-    let n : sitesOf h w ≡ h * w = sides h w over .sites ∙ mul-comm w h in
+    let both = then-clear _ _ e in
+    let lent = frame-clear w h full mask frame (both .0) in
+    let fit = lent .2 in
+    let legal = sides w h (fit .of .legal) in
+    let n = turned-sites w h ∙ legal .sites in
     let some : 0 < h = omega (arith, legal .high .low) in
-    let long : (list : List ℕ) → otherThan (sitesOf h w) (length (turned w h list)) ≡ false = λ list. ap not (eq-eqb _ _ (turned-length w h some list ∙ sym n)) in
     let from : (i : ℕ) → i < sitesOf h w → turnedSite w h i < sitesOf w h = λ i l. omega (arith, turned-in w h some i (omega arith), legal .sites) in
-    table rows h w full (turned w h mask) (turned w h frame) marks .passed
-    (past over (past (passed-head p₂) (past (long mask) (past (long frame) (past (passed-head p₅)
-    (past (nowhere-first (badCode (turned w h mask)) (sitesOf h w)
-    (λ i l. ap (λ (x : ℕ). ltb 3 x) (turned-getD w h some mask i (omega arith)) ∙ first-nowhere (badCode mask) (sitesOf w h) (passed-head p₆) _ (from i l)))
-    (past (nowhere-first (above full (seen (turned w h mask) (turned w h frame))) (sitesOf h w)
-    (λ i l. ap (λ (x : ℕ). ltb full x) (turned-seen w h some mask frame i (omega arith)) ∙ first-nowhere (above full (seen mask frame)) (sitesOf w h) (passed-head p₇) _ (from i l)))
-    (past (passed-head (passed-tail p₇)) end))))))))
+    let masked : Masked h w full (turned w h mask) = record {
+      legal = turned-sides w h ∙ fit .of .legal;
+      scaled = fit .of .scaled;
+      masked = turned-length w h some mask ∙ sym n;
+      codes = λ i l. rw (turned-getD w h some mask i (omega arith)) (fit .of .codes _ (from i l));
+    } in
+    let framed : Framed h w full (turned w h mask) (turned w h frame) = record {
+      of = masked;
+      framed = turned-length w h some frame ∙ sym n;
+      range = λ i l. rw (turned-seen w h some mask frame i (omega arith)) (fit .range _ (from i l));
+    } in
+    clear-then (clear-frame h w full (turned w h mask) (turned w h frame) framed refl (lent .1)) (both .1)

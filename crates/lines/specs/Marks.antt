@@ -4,12 +4,12 @@ use mathlib.Core.List.{List}
 use lib.Dec.{ltb}
 use lib.ListN.{length}
 use Rattle.laws.specs.Table.{tabulate}
-use Rattle.window.specs.View.{seen, one}
 use Rattle.verdict.specs.Verdict.{_⨟_, refuseIf, ifClear}
-use Rattle.verdict.specs.Answer.{answerOf, Paper, acceptedPaper, refusedPaper, paperFor, NoFigures, noFigures}
-use Rattle.window.specs.Judge.{otherThan, frameVerdict}
+use Rattle.verdict.specs.Answer.{answerOf, Paper, acceptedPaper, refusedPaper, paperFor, Nothing, nothing}
 use Rattle.verdict.specs.declared.Verdict.{Verdict}
 use Rattle.verdict.specs.declared.Verdict.the-variants as verdict
+use Rattle.window.specs.View.{seen, one}
+use Rattle.window.specs.Judge.{otherThan, frameVerdict}
 use Rattle.lines.specs.Lines.{Lines, markAt}
 use Rattle.lines.specs.declared.Marked.{Marked}
 use Rattle.lines.specs.declared.Marked.the-variants.{Done, Refused}
@@ -29,13 +29,13 @@ unfoldable pub linesAnswer : (ℕ → ℕ → Lines) → ℕ → ℕ → ℕ →
 linesAnswer lines w h full mask frame marks = answerOf (linesVerdict lines w h full mask frame marks) Done Refused
 
 -- the paper's numbers of an answer
-abbrev pub paperOf : Marked → Paper NoFigures
-paperOf Done = acceptedPaper noFigures
-paperOf (Refused r) = refusedPaper r noFigures
+abbrev pub paperOf : Marked → Paper Nothing
+paperOf Done = acceptedPaper nothing
+paperOf (Refused r) = refusedPaper r nothing
 
 -- the paper's numbers for all inputs
-unfoldable pub linesPaper : (ℕ → ℕ → Lines) → ℕ → ℕ → ℕ → List ℕ → List ℕ → ℕ → Paper NoFigures
-linesPaper lines w h full mask frame marks = paperFor (linesVerdict lines w h full mask frame marks) noFigures noFigures
+unfoldable pub linesPaper : (ℕ → ℕ → Lines) → ℕ → ℕ → ℕ → List ℕ → List ℕ → ℕ → Paper Nothing
+linesPaper lines w h full mask frame marks = paperFor (linesVerdict lines w h full mask frame marks) nothing nothing
 
 -- the buffer `marks` afterwards: every mark, or all as it was
 unfoldable pub linesBuffer : (ℕ → ℕ → Lines) → ℕ → ℕ → ℕ → List ℕ → List ℕ → List ℕ → List ℕ

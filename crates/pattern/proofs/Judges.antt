@@ -1,4 +1,4 @@
--- The tests in the order of document 01, why the code may ask the later ones of whole buffers, and what an accepted call has passed.
+-- The tests in the order of document 01, why the code may ask the later ones of whole buffers, what an accepted call has passed, and what the verdict makes of the answer.
 use Prim.Native.Nat.{ℕ, zero, suc, _*_, _<_, _≤_}
 use mathlib.Core.Bool.{Bool, false, not}
 use mathlib.Core.List.{List, [], _∷_}
@@ -7,18 +7,20 @@ use native.Mathlib.Omega.{arith}
 use lib.Dec.{ltb}
 use lib.ListN.{length, getD}
 use borrow.Author.Tests.{eqb-true, lt-ltb, ltb-false, ne-eqb, not-false}
-use Rattle.window.proofs.Sides.{frame-count, Sides, Scale, sides, scale}
-use Rattle.window.specs.Shape.{badCount, badSides, badScale, sitesOf}
 use Rattle.laws.specs.First.{someTo}
 use Rattle.laws.proofs.Firsts.{first-nowhere, first-ext}
-use Rattle.window.specs.View.{codeAbove, badCode, surveyed, seen, above}
-use Rattle.verdict.specs.Verdict.{_⨟_, refuseIf, refuseFirst}
-use Rattle.window.specs.Judge.{shapeOf, otherThan, codesOf, walked}
+use Rattle.verdict.specs.Verdict.{_⨟_, refuseIf}
 use Rattle.verdict.specs.declared.Refusal.{Refusal}
 use Rattle.verdict.specs.declared.Verdict.the-variants as verdict
-use Rattle.verdict.proofs.Verdicts.{Test, Tabled, test, testFirst, tabled, passed-head, passed-tail, then-same, unless}
-use Rattle.window.proofs.Chains.{shape-then, shape-clear, same-length, in-range, measured, codes-whole}
+use Rattle.verdict.proofs.Verdicts.{Test, Tabled, test, testFirst, tabled, tabled-then, then-same, then-clear, unless}
+use Rattle.verdict.proofs.Answers.{was-accepted}
+use Rattle.window.specs.Shape.{badCount, badSides, badScale, sitesOf}
+use Rattle.window.specs.View.{codeAbove, badCode, surveyed, seen, above}
+use Rattle.window.specs.Judge.{otherThan, lengthOf, maskVerdict}
+use Rattle.window.proofs.Sides.{frame-count, Sides, Scale, sides, scale}
 use Rattle.window.proofs.Views.{seen-is, seen-in}
+use Rattle.window.proofs.Chains.{length-clear, in-range}
+use Rattle.window.proofs.Judges.{mask-clear, mask-tabled}
 use Rattle.pattern.specs.Lines.{Lines, lineTotal}
 use Rattle.pattern.specs.Pattern.{unsurveyed, patternVerdict, patternFigures, patternAnswer, paperOf, patternPaper}
 use Rattle.pattern.specs.Walk.{lined, lineOf, held, Accepted}
@@ -45,30 +47,24 @@ pub sums-seen : (n : ℕ) (mask sums : List ℕ) → someTo n (unsurveyed mask) 
 sums-seen n mask sums e i l = sym (seen-is mask sums i ∙ seen-in (getD mask i 0) (held sums i) (all-surveyed n mask e i l))
 
 module _ (vertical : Bool) (w h full k : ℕ) (mask sums : List ℕ) where
-  -- the code's chain: it walks whole buffers, sums without their codes, and a product that is formed only within the limits
+  -- the code's chain: 8 and 11 are asked of whole buffers, and 11 of sums without their codes and of a product that is formed only within the limits
   pub judged : (most : ℕ) → (full ≤ 4095 → k ≤ 100 → most ≡ k * full)
-      → shapeOf w h full
-      ⨟ refuseIf 3 0 (badCount k)
-      ⨟ refuseIf 4 0 (otherThan (sitesOf w h) (length mask))
-      ⨟ refuseIf 4 0 (otherThan (sitesOf w h) (length sums))
-      ⨟ codesOf (walked w h (length mask)) mask
+      → maskVerdict w h full (refuseIf 3 0 (badCount k)) mask (lengthOf w h (length sums))
       ⨟ refuseIf 8 0 (someTo (length mask) (codeAbove 0 mask))
       ⨟ refuseIf 9 0 (ltb (lineOf vertical h w) 12)
       ⨟ refuseIf 11 0 (someTo (length sums) (above most (held sums)))
       ≡ patternVerdict (lined vertical) w h full k mask sums
   unfolding patternVerdict
   judged most product =
-      then-same (shapeOf w h full) (λ s.
-      then-same (refuseIf 3 0 (badCount k)) (λ c.
-      measured (sitesOf w h) (length mask) (λ m.
-      measured (sitesOf w h) (length sums) (λ l.
-      ap₂ _⨟_ (codes-whole w h mask m)
-      (rw (some-unsurveyed (length mask) mask, m, l, count-is vertical w h)
+      then-same (maskVerdict w h full (refuseIf 3 0 (badCount k)) mask (lengthOf w h (length sums))) (λ e.
+      let lent = mask-clear w h full mask e in
+      let high = scale full (lent .2 .scaled) .high in
+      let few = frame-count k (unless 3 0 (badCount k) (lent .0)) .high in
+      rw (some-unsurveyed (length mask) mask, lent .2 .masked, length-clear (sitesOf w h) (length sums) (lent .1), count-is vertical w h)
       (then-same (refuseIf 8 0 (someTo (sitesOf w h) (unsurveyed mask))) (λ u.
       ap (λ (n : ℕ). refuseIf 9 0 (ltb (lineOf vertical h w) 12) ⨟ refuseIf 11 0 (ltb n (sitesOf w h)))
       (first-ext (sitesOf w h) (above most (held sums)) (above (k * full) (seen mask sums))
-      (λ i j. ap₂ ltb (product (shape-clear w h full s .1 .high) (frame-count k (unless 3 0 (badCount k) c) .high))
-      (sums-seen (sitesOf w h) mask sums (unless 8 0 (someTo (sitesOf w h) (unsurveyed mask)) u) i j))))))))))
+      (λ i j. ap₂ ltb (product high few) (sums-seen (sitesOf w h) mask sums (unless 8 0 (someTo (sitesOf w h) (unsurveyed mask)) u) i j))))))
 
 module _ (lines : ℕ → ℕ → Lines) (w h full k : ℕ) (mask sums : List ℕ) where
   -- the tests in the order of document 01
@@ -86,8 +82,8 @@ module _ (lines : ℕ → ℕ → Lines) (w h full k : ℕ) (mask sums : List �
       ∷ []
 
   pub table : Tabled (patternVerdict lines w h full k mask sums) tests
-  unfolding patternVerdict refuseFirst
-  table = rw shape-then (tabled _ _)
+  unfolding patternVerdict
+  table = tabled-then (mask-tabled w h full mask (tabled _ []) (tabled _ [])) (tabled _ _)
 
 -- what an accepted call has passed
 pub record Clean (vertical : Bool) (w h full k : ℕ) (mask sums : List ℕ) : Type 0 where
@@ -100,30 +96,31 @@ pub record Clean (vertical : Bool) (w h full k : ℕ) (mask sums : List ℕ) : T
 
 module _ (vertical : Bool) (w h full k : ℕ) (mask sums : List ℕ) where
   pub clean : patternVerdict (lined vertical) w h full k mask sums ≡ verdict.Clear → Clean vertical w h full k mask sums
+  unfolding patternVerdict
   clean e =
       let n = sitesOf w h in
-      let p₁ = table (lined vertical) w h full k mask sums .clear e in
-      let p₃ = passed-tail (passed-tail p₁) in
-      let p₄ = passed-tail (passed-tail p₃) in
-      let p₈ = passed-tail (passed-tail p₄) in
-      let p₁₁ = passed-tail (passed-tail p₈) in
-      let legal = sides w h (passed-head p₁) in
-      let range = scale full (passed-head (passed-tail p₁)) in
+      let all = then-clear _ _ e in
+      let lent = mask-clear w h full mask (all .0) in
+      let surveyed = then-clear _ _ (all .1) in
+      let last = then-clear _ _ (surveyed .1) in
+      let legal = sides w h (lent .2 .legal) in
+      let range = scale full (lent .2 .scaled) in
+      let count = frame-count k (unless 3 0 (badCount k) (lent .0)) in
       let seeing : (i : ℕ) → i < h * w → held sums i ≡ seen mask sums i =
-      λ i l. sums-seen n mask sums (passed-head p₈) i (omega (arith, legal .sites)) in
+      λ i l. sums-seen n mask sums (unless 8 0 (someTo n (unsurveyed mask)) (surveyed .0)) i (omega (arith, legal .sites)) in
       let most : (i : ℕ) → i < h * w → seen mask sums i ≤ k * full =
-      λ i l. in-range n (k * full) (seen mask sums) (passed-head p₁₁) i (omega (arith, legal .sites)) in
+      λ i l. in-range n (k * full) (seen mask sums) (unless 11 0 (someTo n (above (k * full) (seen mask sums))) (last .1)) i (omega (arith, legal .sites)) in
       record {
         legal = legal;
         range = range;
-        some = frame-count k (passed-head p₃) .low;
-        enough = rw (← count-is vertical w h) (ltb-false (lined vertical w h .count) 12 (passed-head (passed-tail p₈)));
+        some = count .low;
+        enough = rw (← count-is vertical w h) (ltb-false (lined vertical w h .count) 12 (unless 9 0 (ltb (lined vertical w h .count) 12) (last .0)));
         fair = record {
           wide = legal .wide .high;
           high = legal .high .high;
           scale = range .high;
-          frames = frame-count k (passed-head p₃) .high;
-          long = same-length n (length sums) (passed-head p₄) ∙ legal .sites;
+          frames = count .high;
+          long = length-clear n (length sums) (lent .1) ∙ legal .sites;
           possible = λ i l. rw (seeing i l) (most i l);
         };
         whole = seeing;
@@ -146,3 +143,11 @@ module _ (lines : ℕ → ℕ → Lines) (w h full k : ℕ) (mask sums : List �
       → (Measured figures ≡ patternAnswer lines w h full k mask sums) × (paperOf (Measured figures) ≡ patternPaper lines w h full k mask sums)
   unfolding patternAnswer patternPaper
   accepted-is figures e f = rw (e, f) (refl, refl)
+
+  -- what figures that are answered say
+  pub measured-is : (figures : Figures) → patternAnswer lines w h full k mask sums ≡ Measured figures
+      → (patternVerdict lines w h full k mask sums ≡ verdict.Clear) × (figures ≡ patternFigures (lines w h) full k (seen mask sums))
+  unfolding patternAnswer
+  measured-is figures e =
+      let was = was-accepted (patternVerdict lines w h full k mask sums) (λ r f. let z : _≡_ {A = ℕ} 0 1 = cc in absurd (omega arith)) e in
+      (was .0, cc)

@@ -2,30 +2,29 @@
 use Prim.Native.Nat.{ℕ, _-_, _*_, _<_, _≤_}
 use mathlib.Core.Bool.{Bool, false}
 use mathlib.Core.List.{List}
-use mathlib.Core.Path.{_≡_, refl, sym, ap, _∙_}
+use mathlib.Core.Path.{_≡_, refl, sym, _∙_}
 use native.Mathlib.Nat.{mul-assoc}
 use native.Mathlib.Omega.{arith}
 use lib.IntN.{pos, natAbs}
 use Rattle.laws.proofs.Cases.{times-le}
 use Rattle.laws.proofs.Sole.{Sole, sole}
-use Rattle.window.specs.View.{seen}
-use Rattle.verdict.specs.Verdict.{numberOf, placeOf, ifClear}
+use Rattle.verdict.specs.Answer.{Paper, paperFor}
 use Rattle.verdict.specs.declared.Verdict.{Verdict}
 use Rattle.verdict.specs.declared.Verdict.the-variants as verdict
 use Rattle.verdict.proofs.Verdicts.{Tabled, Refuses, refuses}
+use Rattle.verdict.proofs.Answers.{paper-told}
 use Rattle.window.proofs.Views.{Agree, same-view}
 use Rattle.pattern.specs.Lines.{Lines, columns, rows, lineTotal}
 use Rattle.pattern.specs.Figures.{noFigures, figuresOf}
-use Rattle.pattern.specs.Pattern.{patternVerdict, patternFigures, answered, patternAnswer, Paper, paperOf, patternPaper}
+use Rattle.pattern.specs.Pattern.{patternVerdict, patternFigures, patternAnswer, paperOf, patternPaper}
 use Rattle.pattern.specs.Walk.{lined, held}
 use Rattle.pattern.specs.declared.Figures.{Figures}
-use Rattle.pattern.specs.declared.Pattern.{Pattern}
-use Rattle.pattern.specs.declared.Pattern.the-variants.{Measured, Refused}
+use Rattle.pattern.specs.declared.Pattern.the-variants.{Measured}
 use Rattle.pattern.proofs.Totals.{count-is, long-is, side-le, side-ge, total-le, total-flat}
 use Rattle.pattern.proofs.Figuring.{level-le, max-le, level-flat, max-flat}
-use Rattle.pattern.proofs.Judges.{Clean, tests, table, clean, figures-seen}
+use Rattle.pattern.proofs.Judges.{Clean, tests, table, clean, figures-seen, measured-is}
 use Rattle.pattern.proofs.Measures.{unit-le}
-use Rattle.pattern.proofs.Turns.{Turned, verdict-turned, figures-turned}
+use Rattle.pattern.proofs.Turns.{Turned, Twin, alike, moved, verdict-turned, figures-turned}
 
 -- of either call: `lines` is `columns` or `rows`
 module _ (lines : ℕ → ℕ → Lines) (w h full k : ℕ) (mask : List ℕ) where
@@ -42,11 +41,7 @@ module _ (lines : ℕ → ℕ → Lines) (w h full k : ℕ) (mask : List ℕ) wh
   -- the paper's numbers are those of the answer
   pub paper-is : (sums : List ℕ) → paperOf (patternAnswer lines w h full k mask sums) ≡ patternPaper lines w h full k mask sums
   unfolding patternAnswer patternPaper
-  paper-is sums = by (patternVerdict lines w h full k mask sums) _
-    where
-      by : (v : Verdict) (f : Figures) → paperOf (answered v f) ≡ record { number = numberOf v; place = placeOf v; figures = ifClear v f noFigures }
-      by verdict.Clear f = refl
-      by (verdict.Refused r) f = refl
+  paper-is sums = paper-told paperOf (patternVerdict lines w h full k mask sums) refl (λ r. refl)
 
   -- given: 1, 2, 3, 4, 5, 8, 9 and 11 exactly as document 01 tables them, in that order (`tests` has the table)
   pub given : (sums : List ℕ) → Tabled (patternVerdict lines w h full k mask sums) (tests lines w h full k mask sums)
@@ -60,10 +55,6 @@ module _ (lines : ℕ → ℕ → Lines) (w h full k : ℕ) (mask : List ℕ) wh
   refused sums = refuses (patternVerdict lines w h full k mask sums) (given sums) refl (λ r e. rw e)
 
 -- ---- of an accepted call, vertical or horizontal
-measured : (v : Verdict) (f g : Figures) → answered v f ≡ Measured g → (v ≡ verdict.Clear) × (g ≡ f)
-measured verdict.Clear f g e = (refl, sym (ap (λ (a : Pattern). paperOf a .figures) e))
-measured (verdict.Refused r) f g e = let z : _≡_ {A = ℕ} 0 1 = cc in absurd (omega arith)
-
 -- the level squared is from 0 to 1 and Max from -1 to 1, and all four numbers are far within 64 bits
 pub record Bounded (f : Figures) : Type 0 where
   pub level : f .«level_numerator» ≤ f .«level_denominator»
@@ -76,15 +67,11 @@ pub record Bounded (f : Figures) : Type 0 where
 module _ (vertical : Bool) (w h full k : ℕ) (mask sums : List ℕ) (figures : Figures)
     (accepted : patternAnswer (lined vertical) w h full k mask sums ≡ Measured figures) where
   passed : Clean vertical w h full k mask sums
-  unfolding patternAnswer
-  passed =
-      clean vertical w h full k mask sums
-      (measured (patternVerdict (lined vertical) w h full k mask sums) (patternFigures (lined vertical w h) full k (seen mask sums)) figures accepted .0)
+  passed = clean vertical w h full k mask sums (measured-is (lined vertical) w h full k mask sums figures accepted .0)
 
   are : figures ≡ patternFigures (lined vertical w h) full k (held sums)
-  unfolding patternAnswer
   are =
-      measured (patternVerdict (lined vertical) w h full k mask sums) (patternFigures (lined vertical w h) full k (seen mask sums)) figures accepted .1
+      measured-is (lined vertical) w h full k mask sums figures accepted .1
       ∙ sym (figures-seen vertical w h full k mask sums passed)
 
   enough : 12 ≤ lined vertical w h .count
@@ -145,20 +132,20 @@ module _ (vertical : Bool) (w h full k : ℕ) (mask sums : List ℕ) (figures : 
 
 -- ---- one call by the other
 -- turned: the vertical call of a window is the horizontal call of its transpose, but for the place of a 5
-pub record SameButPlace (p q : Paper) : Type 0 where
+pub record SameButPlace (p q : Paper Figures) : Type 0 where
   pub number : p .number ≡ q .number
   pub figures : p .figures ≡ q .figures
   pub place : (p .number ≡ 5 → ⊥) → p .place ≡ q .place
+
+-- as the papers of twins are
+twin-papers : {v u : Verdict} → Twin v u → (f g : Figures) → (u ≡ verdict.Clear → f ≡ g)
+    → SameButPlace (paperFor v f noFigures) (paperFor u g noFigures)
+twin-papers (alike verdict.Clear) f g e = record { number = refl; figures = e refl; place = λ n. refl }
+twin-papers (alike (verdict.Refused r)) f g e = record { number = refl; figures = refl; place = λ n. refl }
+twin-papers moved f g e = record { number = refl; figures = refl; place = λ n. absurd (n refl) }
 
 pub turned : (w h full k : ℕ) {mask mask' sums sums' : List ℕ} → Turned w h mask mask' → Turned w h sums sums'
     → SameButPlace (patternPaper columns w h full k mask sums) (patternPaper rows h w full k mask' sums')
 unfolding patternPaper
 turned w h full k {mask} {mask'} {sums} {sums'} m s =
-    let twin = verdict-turned w h full k m s in
-    record {
-      number = twin .number;
-      figures =
-          twin .clear (patternFigures (columns w h) full k (seen mask sums)) (patternFigures (rows h w) full k (seen mask' sums'))
-          (λ e. figures-turned w h full k m s (clean false h w full k mask' sums' e .enough));
-      place = twin .place;
-    }
+    twin-papers (verdict-turned w h full k m s) _ _ (λ e. figures-turned w h full k m s (clean false h w full k mask' sums' e .enough))

@@ -1,33 +1,31 @@
 -- A window and its transpose: what was asked of one's columns is asked of the other's rows.
 use Prim.Native.Nat.{ℕ, zero, suc, _+_, _*_, _/_, _%_, _<_, _≤_}
-use mathlib.Core.Bool.{Bool, true, false, not, _||_}
+use mathlib.Core.Bool.{Bool, true, false, not}
 use mathlib.Core.List.{List}
 use mathlib.Core.Logic.{⊎-elim}
-use mathlib.Core.Path.{_≡_, refl, sym, ap, ap₂, _∙_}
+use mathlib.Core.Path.{_≡_, sym, ap, ap₂, _∙_}
 use native.Mathlib.Nat.{mul-comm, mul-zero, mod-lt, div-add-mod', div-lt-iff-lt-mul}
 use native.Mathlib.Omega.{arith}
 use lib.Arith.{digits-lt, digits-div, digits-mod}
 use lib.Dec.{ltb}
 use lib.ListN.{length}
-use Rattle.window.specs.Shape.{badCount, badSide, badSides, badScale, sitesOf}
 use Rattle.laws.specs.First.{firstTo, someTo}
 use Rattle.laws.specs.Table.{tabulate}
 use Rattle.laws.proofs.Cases.{true-or-false, both-ways}
 use Rattle.laws.proofs.Firsts.{some-none, nowhere-from}
 use Rattle.laws.proofs.Sums.{sum-ext}
 use Rattle.laws.proofs.Tables.{length-tabulate, getD-tabulate}
-use Rattle.window.specs.View.{badCode, surveyed, seenAt, seen, above}
-use Rattle.verdict.specs.Verdict.{_⨟_, refuseIf, refuseFirst, numberOf, placeOf, ifClear}
-use Rattle.window.specs.Judge.{shapeOf, otherThan}
+use Rattle.verdict.specs.Verdict.{refusal, _⨟_, refuseIf, refuseFirst}
 use Rattle.verdict.specs.declared.Verdict.{Verdict}
 use Rattle.verdict.specs.declared.Verdict.the-variants.{Clear, Refused}
-use Rattle.window.proofs.Sides.{sides, no-sites}
+use Rattle.window.specs.Shape.{badSides, sitesOf}
+use Rattle.window.specs.View.{badCode, surveyed, seenAt, seen, above}
+use Rattle.window.specs.Judge.{shapeOf, lengthOf, codesOf, maskVerdict}
+use Rattle.window.proofs.Sides.{sides, no-sites, turned-sides, turned-sites}
 use Rattle.window.proofs.Views.{seen-is}
 use Rattle.pattern.specs.Lines.{columns, rows, lineTotal}
-use Rattle.pattern.specs.Figures.{noFigures}
 use Rattle.pattern.specs.Pattern.{unsurveyed, patternVerdict, patternFigures}
 use Rattle.pattern.specs.Walk.{held}
-use Rattle.pattern.specs.declared.Figures.{Figures}
 use Rattle.pattern.proofs.Figuring.{figures-ext}
 
 -- b is the transpose of a, which is h rows of w: column x of a is row x of b
@@ -62,20 +60,6 @@ carried w h f g same =
     let y : i / w < h = div-lt-iff-lt-mul (positive i h w l) .1 l in
     (digits-lt x y, ap f (sym (div-add-mod' i w)) ∙ same (i / w) (i % w) y x))
 
-turned-sides : (w h : ℕ) → badSides h w ≡ badSides w h
-unfolding badSides
-turned-sides w h = by (badSide h) (badSide w)
-  where
-    by : (a b : Bool) → (a || b) ≡ (b || a)
-    by true true = refl
-    by true false = refl
-    by false true = refl
-    by false false = refl
-
-turned-sites : (w h : ℕ) → sitesOf h w ≡ sitesOf w h
-unfolding sitesOf
-turned-sites w h = rw (turned-sides w h, mul-comm w h)
-
 -- a test that holds at some site of one window holds at some of the other
 some-turned : (w h : ℕ) (f g : ℕ → Bool) → ((y x : ℕ) → y < h → x < w → f (y * w + x) ≡ g (x * h + y))
     → someTo (sitesOf w h) g ≡ someTo (sitesOf w h) f
@@ -88,25 +72,41 @@ some-turned w h f g same =
     (λ e. rw (mul-comm h w) (carried h w g f (λ x y p q. sym (same y x q p)) e))))
     (true-or-false (badSides w h))
 
--- ---- verdicts that differ in the place of 5 alone
-pub record Twin (v u : Verdict) : Type 0 where
-  pub number : numberOf v ≡ numberOf u
-  pub place : (numberOf v ≡ 5 → ⊥) → placeOf v ≡ placeOf u
-  pub clear : (f g : Figures) → (u ≡ Clear → f ≡ g) → ifClear v f noFigures ≡ ifClear u g noFigures
+-- ---- verdicts that differ at most in the place of a 5
+pub data Twin : Verdict → Verdict → Type 0 where
+  alike : (v : Verdict) → Twin v v
+  moved : {p q : ℕ} → Twin (Refused (refusal 5 p)) (Refused (refusal 5 q))
 
-twin-then : (a : Verdict) {v u : Verdict} → Twin v u → Twin (a ⨟ v) (a ⨟ u)
+twin-moved : (p q : ℕ) (applies : Bool) → Twin (refuseIf 5 p applies) (refuseIf 5 q applies)
+unfolding refuseIf
+twin-moved p q true = moved
+twin-moved p q false = alike Clear
+
+-- twins after one verdict, and twins before one, are twins
+twin-after : (a : Verdict) {v u : Verdict} → Twin v u → Twin (a ⨟ v) (a ⨟ u)
 unfolding _⨟_
-twin-then Clear t = t
-twin-then (Refused r) t = record { number = refl; place = λ n. refl; clear = λ f g e. refl }
+twin-after Clear t = t
+twin-after (Refused r) t = alike (Refused r)
 
-twin-same : (v : Verdict) → Twin v v
-twin-same Clear = record { number = refl; place = λ n. refl; clear = λ f g e. e refl }
-twin-same (Refused r) = record { number = refl; place = λ n. refl; clear = λ f g e. refl }
+twin-before : {v u : Verdict} → Twin v u → (b : Verdict) → Twin (v ⨟ b) (u ⨟ b)
+unfolding _⨟_
+twin-before (alike v) b = alike (v ⨟ b)
+twin-before moved b = moved
 
-twin-moved : (p q : ℕ) (applies : Bool) (v : Verdict) → Twin (refuseIf 5 p applies ⨟ v) (refuseIf 5 q applies ⨟ v)
-unfolding refuseIf _⨟_
-twin-moved p q true v = record { number = refl; place = λ n. absurd (n refl); clear = λ f g e. refl }
-twin-moved p q false v = twin-same v
+-- 5, and then 1 to 5, of a window and of its transpose
+module _ (w h : ℕ) {mask mask' : List ℕ} (m : Turned w h mask mask') where
+  codes-turned : Twin (codesOf (sitesOf w h) mask) (codesOf (sitesOf w h) mask')
+  unfolding refuseFirst
+  codes-turned =
+      rw (some-turned w h (badCode mask) (badCode mask') (λ y x p q. ap (ltb 3) (sym (m .sites y x p q))))
+      (twin-moved (firstTo (sitesOf w h) (badCode mask)) (firstTo (sitesOf w h) (badCode mask')) (someTo (sitesOf w h) (badCode mask)))
+
+  mask-turned : (full : ℕ) (numbers lengths : Verdict)
+      → Twin (maskVerdict w h full numbers mask lengths) (maskVerdict h w full numbers mask' lengths)
+  unfolding maskVerdict shapeOf
+  mask-turned full numbers lengths =
+      rw (turned-sides w h, turned-sites w h, m .long)
+      (twin-after (shapeOf w h full) (twin-after numbers (twin-after (lengthOf w h (length mask)) (twin-after lengths codes-turned))))
 
 total-turned : (w h : ℕ) (view other : ℕ → ℕ) (i : ℕ) → ((t : ℕ) → t < h → view (t * w + i) ≡ other (i * h + t))
     → lineTotal (columns w h) view i ≡ lineTotal (rows h w) other i
@@ -121,18 +121,11 @@ module _ (w h full k : ℕ) {mask mask' sums sums' : List ℕ} (m : Turned w h m
       ∙ sym (seen-is mask' sums' (x * h + y))
 
   pub verdict-turned : Twin (patternVerdict columns w h full k mask sums) (patternVerdict rows h w full k mask' sums')
-  unfolding patternVerdict shapeOf refuseFirst
+  unfolding patternVerdict
   verdict-turned =
-      let n = sitesOf w h in
-      let codes = some-turned w h (badCode mask) (badCode mask') (λ y x p q. ap (ltb 3) (sym (m .sites y x p q))) in
       let masked = some-turned w h (unsurveyed mask) (unsurveyed mask') (λ y x p q. ap (λ (c : ℕ). not (surveyed c)) (sym (m .sites y x p q))) in
       let over = some-turned w h (above (k * full) (seen mask sums)) (above (k * full) (seen mask' sums')) (λ y x p q. ap (ltb (k * full)) (seen-turned y x p q)) in
-      rw (turned-sides w h, turned-sites w h, m .long, s .long, codes, masked, over)
-      (twin-then (refuseIf 1 0 (badSides w h) ⨟ refuseIf 2 0 (badScale full))
-      (twin-then (refuseIf 3 0 (badCount k))
-      (twin-then (refuseIf 4 0 (otherThan n (length mask)))
-      (twin-then (refuseIf 4 0 (otherThan n (length sums)))
-      (twin-moved (firstTo n (badCode mask)) (firstTo n (badCode mask')) (someTo n (badCode mask)) _)))))
+      rw (turned-sites w h, s .long, masked, over) (twin-before (mask-turned w h m full _ _) _)
 
   pub figures-turned : 12 ≤ w
       → patternFigures (columns w h) full k (seen mask sums) ≡ patternFigures (rows h w) full k (seen mask' sums')

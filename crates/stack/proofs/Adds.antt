@@ -1,5 +1,5 @@
 -- The verdict on a frame that is offered, and what it makes of the answer and the sums.
-use Prim.Native.Nat.{ℕ, min, _+_, _*_, _^_, _≤_, _<_}
+use Prim.Native.Nat.{ℕ, _+_, _*_, _^_, _≤_, _<_}
 use mathlib.Core.Bool.{_&&_}
 use mathlib.Core.List.{List, [], _∷_}
 use mathlib.Core.Path.{_≡_, refl, _∙_}
@@ -8,21 +8,21 @@ use lib.Dec.{eqb, ltb}
 use lib.ListN.{length, getD}
 use borrow.Author.Tests.{ltb-false, eqb-false}
 use Rattle.laws.proofs.Cases.{times-le}
-use Rattle.window.specs.Shape.{badSides, badScale, sitesOf}
-use Rattle.window.specs.View.{badCode, above, seen}
-use Rattle.verdict.specs.Verdict.{_⨟_, refuseIf, refuseFirst}
-use Rattle.window.specs.Judge.{shapeOf, otherThan, codesOf, samplesOf, walked}
+use Rattle.verdict.specs.Verdict.{_⨟_, refuseIf}
 use Rattle.verdict.specs.declared.Refusal.{Refusal}
 use Rattle.verdict.specs.declared.Verdict.the-variants as verdict
+use Rattle.verdict.proofs.Verdicts.{Test, Tabled, test, testFirst, tabled, tabled-then, then-same, then-clear, unless}
+use Rattle.window.specs.Shape.{badSides, badScale, sitesOf}
+use Rattle.window.specs.View.{badCode, above, seen}
+use Rattle.window.specs.Judge.{otherThan, frameVerdict}
 use Rattle.window.proofs.Sides.{scale}
-use Rattle.verdict.proofs.Verdicts.{Test, Tabled, test, testFirst, tabled, passed-head, passed-tail, then-same, unless}
 use Rattle.window.proofs.Views.{seen-is, seen-out}
-use Rattle.window.proofs.Chains.{shape-then, shape-clear, same-length, in-range, measured, codes-whole, samples-whole}
-use Rattle.stack.specs.Sums.{impossibleIn, squared, added}
+use Rattle.window.proofs.Judges.{Framed, frame-clear, frame-tabled}
+use Rattle.stack.specs.Sums.{stackLengths, impossibleIn, squared, added}
 use Rattle.stack.specs.Walk.{readable}
 use Rattle.stack.specs.Add.{addVerdict, addAnswer, addPaperOf, addPaper, addSums, addSquares}
 use Rattle.stack.specs.declared.Added.the-variants.{Frames, Refused}
-use Rattle.stack.proofs.Sites.{Possible, readable-whole, all-possible}
+use Rattle.stack.proofs.Sites.{sums-clear, sums-tabled, Possible, asked-whole, all-possible}
 use Rattle.stack.proofs.Turns.{leaves-room}
 
 module _ (w h full k : ℕ) (mask frame sums squares : List ℕ) where
@@ -43,67 +43,51 @@ module _ (w h full k : ℕ) (mask frame sums squares : List ℕ) where
       ∷ []
 
   pub table : Tabled (addVerdict w h full k mask frame sums squares) tests
-  unfolding addVerdict refuseFirst
-  table = rw shape-then (tabled _ _)
+  unfolding addVerdict
+  table = tabled-then (frame-tabled w h full mask frame (tabled _ []) (sums-tabled w h (length sums) (length squares))) (tabled _ _)
 
-  -- what is judged of buffers of another length does not matter: 4 comes first
-  pub judged : shapeOf w h full
-      ⨟ refuseIf 3 0 (ltb 100 k)
-      ⨟ refuseIf 4 0 (otherThan (sitesOf w h) (length mask))
-      ⨟ refuseIf 4 0 (otherThan (sitesOf w h) (length frame))
-      ⨟ refuseIf 4 0 (otherThan (sitesOf w h) (length sums))
-      ⨟ refuseIf 4 0 (otherThan (sitesOf w h) (length squares))
-      ⨟ codesOf (walked w h (length mask)) mask
-      ⨟ samplesOf (min (walked w h (length mask)) (walked w h (length frame))) full (seen mask frame)
+  -- 11 is asked of the sums of a whole window: 4 comes first
+  pub judged : frameVerdict w h full (refuseIf 3 0 (ltb 100 k)) mask frame (stackLengths w h (length sums) (length squares))
       ⨟ refuseIf 11 0 (readable full k (length mask) (length sums) (length squares) && impossibleIn (length mask) full k (seen mask sums) (seen mask squares))
       ⨟ refuseIf 12 0 (eqb k 100)
       ≡ addVerdict w h full k mask frame sums squares
   unfolding addVerdict
   judged =
-      then-same (shapeOf w h full) (λ legal. then-same (refuseIf 3 0 (ltb 100 k)) (λ few.
-      measured (sitesOf w h) (length mask) (λ m. measured (sitesOf w h) (length frame) (λ f.
-      measured (sitesOf w h) (length sums) (λ s. measured (sitesOf w h) (length squares) (λ q.
-      let r = readable-whole w h full k mask sums squares (shape-clear w h full legal .1 .high) (ltb-false 100 k (unless 3 0 (ltb 100 k) few)) m s q in
-      rw (codes-whole w h mask m, samples-whole w h full mask frame m f, r, m)))))))
+      then-same (frameVerdict w h full (refuseIf 3 0 (ltb 100 k)) mask frame (stackLengths w h (length sums) (length squares))) (λ e.
+      let lent = frame-clear w h full mask frame e in
+      rw (asked-whole w h full k mask sums squares (lent .2 .of) (ltb-false 100 k (unless 3 0 (ltb 100 k) (lent .0))) (lent .1)))
 
   -- what is known of an accepted frame and the sums
   pub record Accepted : Type 0 where
-    pub masked : length mask ≡ sitesOf w h
-    pub framed : length frame ≡ sitesOf w h
+    pub lent : Framed w h full mask frame
     pub summed : length sums ≡ sitesOf w h
     pub square-summed : length squares ≡ sitesOf w h
     pub bright : full ≤ 4095
     pub room : k < 100
-    pub ranged : (i : ℕ) → i < sitesOf w h → seen mask frame i ≤ full
     pub possible : (i : ℕ) → i < sitesOf w h → Possible full k (seen mask sums i) (seen mask squares i)
 
   pub accepted : addVerdict w h full k mask frame sums squares ≡ verdict.Clear → Accepted
+  unfolding addVerdict
   accepted e =
-      let p₂ = passed-tail (table .clear e) in
-      let p₃ = passed-tail p₂ in
-      let p₄ = passed-tail p₃ in
-      let f₄ = passed-tail p₄ in
-      let s₄ = passed-tail f₄ in
-      let q₄ = passed-tail s₄ in
-      let p₆ = passed-tail (passed-tail q₄) in
-      let p₁₁ = passed-tail p₆ in
-      let most = ltb-false 100 k (passed-head p₃) in
-      let full-up = eqb-false k 100 (passed-head (passed-tail p₁₁)) in
+      let both = then-clear _ _ e in
+      let lent = frame-clear w h full mask frame (both .0) in
+      let long = sums-clear w h (length sums) (length squares) (lent .1) in
+      let stacked = then-clear _ _ (both .1) in
+      let most = ltb-false 100 k (unless 3 0 (ltb 100 k) (lent .0)) in
+      let full-up = eqb-false k 100 (unless 12 0 (eqb k 100) (stacked .1)) in
       record {
-        masked = same-length (sitesOf w h) (length mask) (passed-head p₄);
-        framed = same-length (sitesOf w h) (length frame) (passed-head f₄);
-        summed = same-length (sitesOf w h) (length sums) (passed-head s₄);
-        square-summed = same-length (sitesOf w h) (length squares) (passed-head q₄);
-        bright = scale full (passed-head p₂) .high;
+        lent = lent .2;
+        summed = long .0;
+        square-summed = long .1;
+        bright = scale full (lent .2 .of .scaled) .high;
         room = omega arith;
-        ranged = in-range (sitesOf w h) full (seen mask frame) (passed-head p₆);
-        possible = all-possible (sitesOf w h) full k (seen mask sums) (seen mask squares) (passed-head p₁₁);
+        possible = all-possible (sitesOf w h) full k (seen mask sums) (seen mask squares) (unless 11 0 _ (stacked .0));
       }
 
   -- so every sum has room for the frame's sample, and every sum of squares for its square
   module _ (a : Accepted) (i : ℕ) (l : i < length mask) where
     inside : i < sitesOf w h
-    inside = omega (arith, a .masked)
+    inside = omega (arith, a .lent .of .masked)
 
     none : (getD mask i 0 ≡ 0 → ⊥) → seen mask frame i ≡ 0
     none e = seen-is mask frame i ∙ seen-out (getD mask i 0) (getD frame i 0) e
@@ -111,7 +95,7 @@ module _ (w h full k : ℕ) (mask frame sums squares : List ℕ) where
     pub sum-room : getD sums i 0 < 2 ^ 32 → getD sums i 0 + seen mask frame i < 2 ^ 32
     sum-room fits =
         let p = a .possible i inside .sum in
-        let r = a .ranged i inside in
+        let r = a .lent .range i inside in
         let most = times-le k full 100 4095 (omega (arith, a .room)) (a .bright) in
         leaves-room (getD mask i 0) (getD sums i 0) (seen mask frame i) (100 * 4095 + 4095) fits
         (rw (← seen-is mask sums i) (omega (arith, a .bright))) none (omega arith)
@@ -119,7 +103,7 @@ module _ (w h full k : ℕ) (mask frame sums squares : List ℕ) where
     pub square-room : getD squares i 0 < 2 ^ 32 → getD squares i 0 + squared (seen mask frame) i < 2 ^ 32
     square-room fits =
         let p = a .possible i inside .square in
-        let r = times-le (seen mask frame i) (seen mask frame i) full full (a .ranged i inside) (a .ranged i inside) in
+        let r = times-le (seen mask frame i) (seen mask frame i) full full (a .lent .range i inside) (a .lent .range i inside) in
         let f = times-le full full 4095 4095 (a .bright) (a .bright) in
         let most = times-le k (full * full) 99 (4095 * 4095) (omega (arith, a .room)) f in
         leaves-room (getD mask i 0) (getD squares i 0) (squared (seen mask frame) i) (100 * (4095 * 4095)) fits

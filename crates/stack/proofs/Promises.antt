@@ -5,27 +5,29 @@ use mathlib.Core.List.{List, [], _∷_}
 use mathlib.Core.Path.{_≡_, refl, sym, ap, _∙_}
 use native.Mathlib.Nat.{mul-pos}
 use native.Mathlib.Omega.{arith}
-use lib.Ieee.{Float, binary64, ofBits}
+use lib.Ieee.{Float}
 use lib.ListN.{length, getD, replicate, length-replicate}
 use borrow.Author.Tests.{lt-leb}
-use Rattle.window.proofs.Sides.{scale, sites-few}
-use Rattle.window.specs.Shape.{badScale, sitesOf}
 use Rattle.laws.specs.Sum.{sumTo}
 use Rattle.laws.proofs.Tables.{getD-tabulate}
 use Rattle.laws.proofs.Sole.{Sole, sole}
-use Rattle.exact.specs.Quotient.{quotient, floatZero}
+use Rattle.exact.specs.Quotient.{floatZero}
 use Rattle.exact.specs.Bound.{CloseTo}
 use Rattle.exact.proofs.Quotients.{quotient-near, quotient-zero}
-use Rattle.window.specs.View.{surveyed, seen, one}
-use Rattle.verdict.specs.Verdict.{refuseIf, numberOf, placeOf, ifClear}
+use Rattle.verdict.specs.Verdict.{refuseIf, ifClear}
 use Rattle.verdict.specs.declared.Refusal.{Refusal}
 use Rattle.verdict.specs.declared.Verdict.{Verdict}
 use Rattle.verdict.specs.declared.Verdict.the-variants as verdict
 use Rattle.verdict.proofs.Verdicts.{Tabled, Refuses, refuses, then-same, then-clear, then-end}
+use Rattle.verdict.proofs.Answers.{paper-told}
+use Rattle.window.specs.Shape.{badScale, sitesOf}
+use Rattle.window.specs.View.{surveyed, seen, one}
+use Rattle.window.specs.Judge.{frameVerdict}
+use Rattle.window.proofs.Sides.{scale, sites-few}
 use Rattle.window.proofs.Views.{Agree, same-view, seen-is, seen-in, seen-out}
 use Rattle.stack.specs.Sums.{impossibleIn, squared, added, spread}
-use Rattle.stack.specs.Add.{addVerdict, addAnswered, addAnswer, addPaperOf, addPaper, addSums, addSquares}
-use Rattle.stack.specs.Variance.{sumsVerdict, varianceVerdict, varianceAnswered, varianceAnswer, variancePaperOf, variancePaper}
+use Rattle.stack.specs.Add.{addVerdict, addAnswer, addPaperOf, addPaper, addSums, addSquares}
+use Rattle.stack.specs.Variance.{sumsVerdict, varianceVerdict, noVariance, varianceAnswer, variancePaperOf, variancePaper}
 use Rattle.stack.specs.Run.{Stack, offered, run, runVerdict, overFrames}
 use Rattle.stack.specs.declared.Variance.the-variants.{Figures}
 use Rattle.stack.proofs.Sites.{all-possible}
@@ -45,11 +47,7 @@ module _ (w h full k : ℕ) (mask frame sums squares : List ℕ) where
   -- the paper's numbers are those of the answer
   pub add-paper-is : addPaperOf (addAnswer w h full k mask frame sums squares) ≡ addPaper w h full k mask frame sums squares
   unfolding addAnswer addPaper
-  add-paper-is = by (addVerdict w h full k mask frame sums squares) _
-    where
-      by : (v : Verdict) (n : ℕ) → addPaperOf (addAnswered v n) ≡ record { number = numberOf v; place = placeOf v; count = ifClear v n 0 }
-      by verdict.Clear n = refl
-      by (verdict.Refused r) n = refl
+  add-paper-is = paper-told addPaperOf (addVerdict w h full k mask frame sums squares) refl (λ r. refl)
 
   -- given: 1 to 6, 11 and 12 exactly as document 01 tables them, in that order (`Adds.tests` has the table)
   pub add-given : Tabled (addVerdict w h full k mask frame sums squares) (adds.tests w h full k mask frame sums squares)
@@ -57,7 +55,7 @@ module _ (w h full k : ℕ) (mask frame sums squares : List ℕ) where
 
   -- refused: where the number is not 0 the count is 0 and both buffers are as they were, and where it is 0 so is the place
   pub add-refused : Refuses (addPaper w h full k mask frame sums squares .number) (addPaper w h full k mask frame sums squares .place)
-      ((addPaper w h full k mask frame sums squares .count ≡ 0) × (addSums w h full k mask frame sums squares ≡ sums) × (addSquares w h full k mask frame sums squares ≡ squares))
+      ((addPaper w h full k mask frame sums squares .figures ≡ 0) × (addSums w h full k mask frame sums squares ≡ sums) × (addSquares w h full k mask frame sums squares ≡ squares))
   unfolding addPaper addSums addSquares
   add-refused = refuses (addVerdict w h full k mask frame sums squares) add-given refl (λ r e. rw e (refl, refl, refl))
 
@@ -77,7 +75,7 @@ module _ (w h full k : ℕ) (mask frame sums squares : List ℕ) where
   -- blind: what a frame or the sums hold at unsurveyed sites changes neither the answer nor what is written at surveyed ones
   module _ (frame′ sums′ squares′ : List ℕ) (f : Agree mask frame frame′) (s : Agree mask sums sums′) (q : Agree mask squares squares′) where
     same-verdict : addVerdict w h full k mask frame sums squares ≡ addVerdict w h full k mask frame′ sums′ squares′
-    unfolding addVerdict
+    unfolding addVerdict frameVerdict
     same-verdict = rw (f .long, s .long, q .long, same-view f, same-view s, same-view q)
 
     pub add-blind : addAnswer w h full k mask frame sums squares ≡ addAnswer w h full k mask frame′ sums′ squares′
@@ -105,13 +103,7 @@ module _ (w h full k : ℕ) (mask sums squares : List ℕ) where
 
   pub variance-paper-is : variancePaperOf (varianceAnswer w h full k mask sums squares) ≡ variancePaper w h full k mask sums squares
   unfolding varianceAnswer variancePaper
-  variance-paper-is = by (varianceVerdict w h full k mask sums squares) _ _
-    where
-      by : (v : Verdict) (a b : ℕ)
-          → variancePaperOf (varianceAnswered v a b)
-          ≡ record { number = numberOf v; place = placeOf v; numerator = ifClear v a 0; denominator = ifClear v b 0; variance = ifClear v (quotient a b) (ofBits binary64 0) }
-      by verdict.Clear a b = refl
-      by (verdict.Refused r) a b = refl
+  variance-paper-is = paper-told variancePaperOf (varianceVerdict w h full k mask sums squares) refl (λ r. refl)
 
   -- given: 1 to 5, 7, 11 and 14 exactly as document 01 tables them, in that order (`Variances.tests` has the table)
   pub variance-given : Tabled (varianceVerdict w h full k mask sums squares) (variances.tests w h full k mask sums squares)
@@ -119,11 +111,9 @@ module _ (w h full k : ℕ) (mask sums squares : List ℕ) where
 
   -- refused
   pub variance-refused : Refuses (variancePaper w h full k mask sums squares .number) (variancePaper w h full k mask sums squares .place)
-      ((variancePaper w h full k mask sums squares .numerator ≡ 0)
-      × (variancePaper w h full k mask sums squares .denominator ≡ 0)
-      × (variancePaper w h full k mask sums squares .variance ≡ ofBits binary64 0))
+      (variancePaper w h full k mask sums squares .figures ≡ noVariance)
   unfolding variancePaper
-  variance-refused = refuses (varianceVerdict w h full k mask sums squares) variance-given refl (λ r e. rw e (refl, refl, refl))
+  variance-refused = refuses (varianceVerdict w h full k mask sums squares) variance-given refl (λ r e. rw e)
 
   -- blind: what the sums hold at unsurveyed sites changes nothing
   pub variance-blind : (sums′ squares′ : List ℕ) → Agree mask sums sums′ → Agree mask squares squares′

@@ -1,36 +1,33 @@
 -- Runs of frames from zero sums: what the sums are, why every run of frames in range is accepted, and why no order matters.
 use Prim.Native.Nat.{ℕ, zero, suc, _+_, _-_, _*_, _^_, _≤_, _<_}
-use mathlib.Core.Bool.{false, not}
+use mathlib.Core.Bool.{false}
 use mathlib.Core.List.{List, [], _∷_, List·Permᴰ, List·Permᴰ·nil, List·Permᴰ·cons, List·Permᴰ·swap, List·Permᴰ·trans}
 use mathlib.Core.Logic.{⊎-elim}
 use mathlib.Core.Path.{_≡_, refl, sym, ap, ap₂, _∙_, subst}
 use native.Mathlib.Nat.{suc-mul, zero-mul, mul-assoc, mul-mul-mul-comm}
 use native.Mathlib.Numerals.{add-one}
 use native.Mathlib.Omega.{arith}
-use lib.Dec.{ltb}
 use lib.ListN.{length, getD, replicate}
-use borrow.Author.Tests.{le-ltb, eq-eqb, ne-eqb, lt-leb, eqb-true, eqb-false}
-use Rattle.window.specs.Shape.{badCount, badSides, badScale, sitesOf}
-use Rattle.laws.specs.First.{firstTo}
+use borrow.Author.Tests.{le-ltb, ne-eqb, lt-leb, eqb-true, eqb-false}
 use Rattle.laws.specs.Sum.{sumTo}
 use Rattle.laws.specs.Table.{tabulate}
 use Rattle.laws.proofs.Cases.{true-or-false}
 use Rattle.laws.proofs.Firsts.{nowhere-first}
 use Rattle.laws.proofs.Sums.{sum-ext, sum-zero}
 use Rattle.laws.proofs.Tables.{length-tabulate, getD-tabulate, tabulate-ext}
-use Rattle.window.specs.View.{badCode, above, surveyed, seen, one}
 use Rattle.verdict.specs.Verdict.{_⨟_}
-use Rattle.window.specs.Judge.{otherThan}
 use Rattle.verdict.specs.declared.Verdict.the-variants as verdict
+use Rattle.verdict.proofs.Verdicts.{then-clear, clear-then, clear-unless}
+use Rattle.window.specs.Shape.{badCount, sitesOf}
+use Rattle.window.specs.View.{surveyed, seen, one}
 use Rattle.window.proofs.Sides.{scale, sites-few}
-use Rattle.verdict.proofs.Verdicts.{end, past, passed-head, passed-tail, then-clear}
 use Rattle.window.proofs.Views.{seen-is, seen-in, seen-out}
-use Rattle.window.proofs.Chains.{legal-codes}
-use Rattle.stack.specs.Sums.{impossibleAt, impossibleIn, squared, added, spread}
+use Rattle.window.proofs.Judges.{Masked, clear-mask, clear-frame}
+use Rattle.stack.specs.Sums.{stackLengths, impossibleAt, impossibleIn, squared, added, spread}
 use Rattle.stack.specs.Add.{addVerdict, addSums, addSquares}
-use Rattle.stack.specs.Variance.{tooFew, varianceVerdict}
+use Rattle.stack.specs.Variance.{tooFew, sumsVerdict, varianceVerdict}
 use Rattle.stack.specs.Run.{Stack, offered, run, runVerdict, overFrames}
-use Rattle.stack.proofs.Sites.{Possible, is-possible, possible-none, possible-more}
+use Rattle.stack.proofs.Sites.{clear-sums, Possible, is-possible, possible-none, possible-more}
 use Rattle.stack.proofs.Adds as adds
 use Rattle.stack.proofs.Variances as variances
 
@@ -156,18 +153,8 @@ module _ (w h full : ℕ) (mask : List ℕ) where
 
   -- ---- which runs are accepted
   -- a window, a full scale and a mask that 1, 2, 4 and 5 do not refuse
-  pub record Legal : Type 0 where
-    pub sides : badSides w h ≡ false
-    pub scale : badScale full ≡ false
-    pub long : length mask ≡ sitesOf w h
-    pub codes : (i : ℕ) → i < sitesOf w h → getD mask i 0 ≤ 3
-
-  -- of the right length
-  same : (l : List ℕ) → length l ≡ sitesOf w h → otherThan (sitesOf w h) (length l) ≡ false
-  same l e = ap not (eq-eqb (length l) (sitesOf w h) e)
-
-  no-bad-code : Legal → ltb (firstTo (sitesOf w h) (badCode mask)) (sitesOf w h) ≡ false
-  no-bad-code a = nowhere-first (badCode mask) (sitesOf w h) (λ i l. le-ltb 3 (getD mask i 0) (a .codes i l))
+  abbrev pub Legal : Type 0
+  Legal = Masked w h full mask
 
   module _ (fs : List (List ℕ)) where
     -- frames in range give sums that 11 does not refuse
@@ -187,23 +174,18 @@ module _ (w h full : ℕ) (mask : List ℕ) where
         (λ i l. rw (shown mask (sitesOf w h) (sumAt mask fs) (sum-out mask fs) i l, shown mask (sitesOf w h) (squareAt mask fs) (square-out mask fs) i l)
         (is-possible full (length fs) (sumAt mask fs i) (squareAt mask fs i) (possible-at a i l)))
 
+    -- and are as many as the sites
+    stack-long : stackLengths w h (length (stackOf fs .sums)) (length (stackOf fs .squares)) ≡ verdict.Clear
+    stack-long = clear-sums w h _ _ (length-tabulate (sitesOf w h) (sumAt mask fs)) (length-tabulate (sitesOf w h) (squareAt mask fs))
+
     -- so a stack of fewer than 100 takes one more
     takes-more : Legal → AllInRange (sitesOf w h) full mask fs → length fs < 100 → (f : List ℕ) → InRange (sitesOf w h) full mask f
         → addVerdict w h full (length fs) mask f (stackOf fs .sums) (stackOf fs .squares) ≡ verdict.Clear
+    unfolding addVerdict
     takes-more a r few f b =
-        adds.table w h full (length fs) mask f (stackOf fs .sums) (stackOf fs .squares) .passed
-        (past (a .sides)
-        (past (a .scale)
-        (past (le-ltb 100 (length fs) (omega arith))
-        (past (same mask (a .long))
-        (past (same f (b .long))
-        (past (same (stackOf fs .sums) (length-tabulate (sitesOf w h) (sumAt mask fs)))
-        (past (same (stackOf fs .squares) (length-tabulate (sitesOf w h) (squareAt mask fs)))
-        (past (no-bad-code a)
-        (past (nowhere-first (above full (seen mask f)) (sitesOf w h) (λ i l. le-ltb full (seen mask f i) (b .ranged i l)))
-        (past (possible-in r)
-        (past (ne-eqb (length fs) 100 (λ e. omega arith))
-        end)))))))))))
+        clear-then
+        (clear-frame w h full mask f (record { of = a; framed = b .long; range = b .ranged }) (clear-unless 3 0 (le-ltb 100 (length fs) (omega arith))) stack-long)
+        (clear-then (clear-unless 11 0 (possible-in r)) (clear-unless 12 0 (ne-eqb (length fs) 100 (λ e. omega arith))))
 
   -- a run of at most 100 frames in range is accepted
   pub run-clear : Legal → (fs : List (List ℕ)) → AllInRange (sitesOf w h) full mask fs → length fs ≤ 100 → runVerdict w h full mask fs ≡ verdict.Clear
@@ -226,7 +208,7 @@ module _ (w h full : ℕ) (mask : List ℕ) where
       let s = run w h full mask fs in
       let both = then-clear (runVerdict w h full mask fs) (addVerdict w h full (s .frames) mask f (s .sums) (s .squares)) e in
       let a = adds.accepted w h full (s .frames) mask f (s .sums) (s .squares) (both .1) in
-      more (record { long = a .framed; ranged = a .ranged }) (taken-ranged fs (both .0))
+      more (record { long = a .lent .framed; ranged = a .lent .range }) (taken-ranged fs (both .0))
 
   pub taken : (f : List ℕ) (fs : List (List ℕ)) → runVerdict w h full mask (f ∷ fs) ≡ verdict.Clear → Taken (f ∷ fs)
   unfolding runVerdict
@@ -234,18 +216,8 @@ module _ (w h full : ℕ) (mask : List ℕ) where
       let s = run w h full mask fs in
       let both = then-clear (runVerdict w h full mask fs) (addVerdict w h full (s .frames) mask f (s .sums) (s .squares)) e in
       let a = adds.accepted w h full (s .frames) mask f (s .sums) (s .squares) (both .1) in
-      let p = adds.table w h full (s .frames) mask f (s .sums) (s .squares) .clear (both .1) in
       let count : s .frames ≡ length fs = ap (λ (t : Stack). t .frames) (run-is fs (both .0)) in
-      record {
-        legal = record {
-          sides = passed-head p;
-          scale = passed-head (passed-tail p);
-          long = a .masked;
-          codes = legal-codes (sitesOf w h) mask (passed-head (passed-tail (passed-tail (passed-tail (passed-tail (passed-tail (passed-tail (passed-tail p))))))));
-        };
-        ranged = taken-ranged (f ∷ fs) e;
-        few = omega (arith, a .room);
-      }
+      record { legal = a .lent .of; ranged = taken-ranged (f ∷ fs) e; few = omega (arith, a .room) }
 
   -- ---- the variance of a run
   -- its numerator is that of the frames' own sums
@@ -262,24 +234,19 @@ module _ (w h full : ℕ) (mask : List ℕ) where
   pub variance-clear : Legal → (fs : List (List ℕ)) → AllInRange (sitesOf w h) full mask fs → 2 ≤ length fs → length fs ≤ 100
       → 0 < sumTo (sitesOf w h) (one mask)
       → varianceVerdict w h full (length fs) mask (stackOf fs .sums) (stackOf fs .squares) ≡ verdict.Clear
-  unfolding badCount tooFew
+  unfolding varianceVerdict sumsVerdict badCount tooFew
   variance-clear a fs r least most some =
-      variances.table w h full (length fs) mask (stackOf fs .sums) (stackOf fs .squares) .passed
-      (past (a .sides)
-      (past (a .scale)
-      (past (rw (ne-eqb (length fs) 0 (λ e. omega arith)) (le-ltb 100 (length fs) most))
-      (past (same mask (a .long))
-      (past (same (stackOf fs .sums) (length-tabulate (sitesOf w h) (sumAt mask fs)))
-      (past (same (stackOf fs .squares) (length-tabulate (sitesOf w h) (squareAt mask fs)))
-      (past (no-bad-code a)
-      (past (rw (ne-eqb (sumTo (sitesOf w h) (one mask)) 0 (λ e. omega arith)) (le-ltb (length fs) 2 least))
-      (past (possible-in fs r)
-      (past (rw run-spread (lt-leb (2 ^ 53) (spread (sitesOf w h) (length fs) (sumAt mask fs) (squareAt mask fs)) exact))
-      end))))))))))
+      clear-then
+      (clear-then
+      (clear-mask w h full mask a (clear-unless 3 0 (rw (ne-eqb (length fs) 0 (λ e. omega arith)) (le-ltb 100 (length fs) most))) (stack-long fs))
+      (clear-then
+      (clear-unless 7 0 (rw (ne-eqb (sumTo (sitesOf w h) (one mask)) 0 (λ e. omega arith)) (le-ltb (length fs) 2 least)))
+      (clear-unless 11 0 (possible-in fs r))))
+      (clear-unless 14 0 (rw run-spread (lt-leb (2 ^ 53) (spread (sitesOf w h) (length fs) (sumAt mask fs) (squareAt mask fs)) exact)))
     where
       exact : spread (sitesOf w h) (length fs) (sumAt mask fs) (squareAt mask fs) < 2 ^ 53
       exact =
-          variances.spread-exact (sitesOf w h) full (length fs) (sumAt mask fs) (squareAt mask fs) (sites-few w h) (scale full (a .scale) .high) most (possible-at fs r)
+          variances.spread-exact (sitesOf w h) full (length fs) (sumAt mask fs) (squareAt mask fs) (sites-few w h) (scale full (a .scaled) .high) most (possible-at fs r)
 
 -- k equal samples p have k × (k × p²) = (k × p)²
 equal-none : (k p : ℕ) → k * (k * (p * p)) - k * p * (k * p) ≡ 0

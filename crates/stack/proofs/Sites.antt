@@ -1,7 +1,7 @@
--- The sums at a site: when they can be read, and when they can come from k frames.
+-- The sums that are lent, and those at a site: when they can be read, and when they can come from k frames.
 use Prim.Native.Nat.{ℕ, _+_, _*_, _≤_, _<_}
 use mathlib.Core.Bool.{true, false, _||_, _&&_}
-use mathlib.Core.List.{List}
+use mathlib.Core.List.{List, [], _∷_}
 use mathlib.Core.Path.{_≡_}
 use native.Mathlib.Nat.{add-mul}
 use native.Mathlib.Omega.{arith}
@@ -11,9 +11,29 @@ use borrow.Author.Tests.{le-ltb, ltb-false, leb-true, le-leb, eqb-true, eq-eqb}
 use Rattle.laws.proofs.Cases.{neither, and-true, times-le}
 use Rattle.laws.proofs.Firsts.{first-nowhere}
 use Rattle.laws.proofs.Squares.{schwarz-more}
+use Rattle.verdict.specs.declared.Verdict.the-variants.{Clear}
+use Rattle.verdict.proofs.Verdicts.{Tabled, test, tabled, then-clear, clear-then}
 use Rattle.window.specs.Shape.{sitesOf}
-use Rattle.stack.specs.Sums.{impossible, impossibleAt, impossibleIn}
+use Rattle.window.specs.View.{seen}
+use Rattle.window.specs.Judge.{otherThan}
+use Rattle.window.proofs.Sides.{scale}
+use Rattle.window.proofs.Chains.{length-clear, clear-length}
+use Rattle.window.proofs.Judges.{Masked}
+use Rattle.stack.specs.Sums.{stackLengths, impossible, impossibleAt, impossibleIn}
 use Rattle.stack.specs.Walk.{readable}
+
+-- 4 does not apply: of both there is one a site
+module _ (w h sums squares : ℕ) where
+  pub sums-clear : stackLengths w h sums squares ≡ Clear → (sums ≡ sitesOf w h) × (squares ≡ sitesOf w h)
+  sums-clear e =
+      let both = then-clear _ _ e in
+      (length-clear (sitesOf w h) sums (both .0), length-clear (sitesOf w h) squares (both .1))
+
+  pub clear-sums : sums ≡ sitesOf w h → squares ≡ sitesOf w h → stackLengths w h sums squares ≡ Clear
+  clear-sums s q = clear-then (clear-length (sitesOf w h) sums s) (clear-length (sitesOf w h) squares q)
+
+  pub sums-tabled : Tabled (stackLengths w h sums squares) (test 4 0 (otherThan (sitesOf w h) sums) ∷ test 4 0 (otherThan (sitesOf w h) squares) ∷ [])
+  sums-tabled = tabled _ _
 
 pub record Readable (full k mask sums squares : ℕ) : Type 0 where
   pub scale : full ≤ 4095
@@ -69,13 +89,16 @@ possible-more full k s q p a l = record {
   spread = schwarz-more k q s p (a .spread);
 }
 
--- the sums of a whole window can be read
-pub readable-whole : (w h full k : ℕ) (mask sums squares : List ℕ) → full ≤ 4095 → k ≤ 100
-    → length mask ≡ sitesOf w h → length sums ≡ sitesOf w h → length squares ≡ sitesOf w h
-    → readable full k (length mask) (length sums) (length squares) ≡ true
-readable-whole w h full k mask sums squares f c m s q =
+-- the sums of a whole window can be read, so 11 is asked of them all
+pub asked-whole : (w h full k : ℕ) (mask sums squares : List ℕ) → Masked w h full mask → k ≤ 100 → stackLengths w h (length sums) (length squares) ≡ Clear
+    → (readable full k (length mask) (length sums) (length squares) && impossibleIn (length mask) full k (seen mask sums) (seen mask squares))
+    ≡ impossibleIn (sitesOf w h) full k (seen mask sums) (seen mask squares)
+asked-whole w h full k mask sums squares m most lent =
+    let long = sums-clear w h (length sums) (length squares) lent in
+    let r =
     is-readable full k (length mask) (length sums) (length squares)
-    (record { scale = f; count = c; long = omega arith; square-long = omega arith })
+    (record { scale = scale full (m .scaled) .high; count = most; long = omega (arith, m .masked); square-long = omega (arith, m .masked) }) in
+    rw (r, m .masked)
 
 -- where 11 does not apply, every site's sums are possible
 pub all-possible : (n full k : ℕ) (s q : ℕ → ℕ) → impossibleIn n full k s q ≡ false → (i : ℕ) → i < n → Possible full k (s i) (q i)

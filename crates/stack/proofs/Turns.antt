@@ -14,9 +14,9 @@ use Rattle.laws.proofs.Cases.{lt-or-ge, true-or-false, times-le}
 use Rattle.laws.proofs.Firsts.{some-none, some-more}
 use Rattle.laws.proofs.Sums.{sum-more, sum-ext, sum-scaled, sum-add, sum-times}
 use Rattle.laws.proofs.Tables.{Filling, filling-rest, filling-more, length-tabulate, getD-tabulate}
-use Rattle.window.specs.View.{surveyed, seenAt, seen}
 use Rattle.verdict.specs.Verdict.{refuseIf}
 use Rattle.verdict.specs.declared.Verdict.the-variants.{Clear}
+use Rattle.window.specs.View.{surveyed, seenAt, seen}
 use Rattle.window.proofs.Views.{seen-is, seen-in}
 use Rattle.stack.specs.Sums.{impossible, impossibleAt, impossibleIn, squared, added, spread}
 use Rattle.stack.specs.Walk.{readable}

@@ -1,7 +1,7 @@
 -- The verdict on a stack's variance, and what it makes of the answer.
 use Prim.Native.Nat.{ℕ, _-_, _*_, _^_, _≤_, _<_}
 use mathlib.Core.Bool.{false, _&&_}
-use mathlib.Core.List.{List, [], _∷_, _++_}
+use mathlib.Core.List.{List, [], _∷_}
 use mathlib.Core.Path.{_≡_, refl, sym, ap, _∙_}
 use native.Mathlib.Nat.{mul-pos}
 use native.Mathlib.Omega.{arith}
@@ -9,28 +9,28 @@ use lib.Dec.{eqb, ltb, leb}
 use lib.Ieee.{Float}
 use lib.ListN.{length}
 use borrow.Author.Tests.{ltb-false, eqb-false}
-use Rattle.window.proofs.Sides.{frame-count, scale, sites-few}
-use Rattle.window.specs.Shape.{badCount, badSides, badScale, sitesOf}
-use Rattle.window.proofs.Walks.{walked-whole}
 use Rattle.laws.specs.Sum.{sumTo}
 use Rattle.laws.proofs.Cases.{neither, times-le}
 use Rattle.laws.proofs.Sums.{sum-le}
 use Rattle.exact.specs.Quotient.{quotient, quotientOrZero}
 use Rattle.exact.proofs.Quotients.{Ranged, ranged-quotient}
-use Rattle.window.specs.View.{badCode, seen, one}
-use Rattle.verdict.specs.Verdict.{_⨟_, refuseIf, refuseFirst}
-use Rattle.window.specs.Judge.{shapeOf, otherThan, codesOf, walked}
+use Rattle.verdict.specs.Verdict.{_⨟_, refuseIf}
 use Rattle.verdict.specs.declared.Refusal.{Refusal}
-use Rattle.verdict.specs.declared.Verdict.{Verdict}
 use Rattle.verdict.specs.declared.Verdict.the-variants as verdict
-use Rattle.verdict.proofs.Verdicts.{Test, Tabled, test, testFirst, tabled, tabled-then, passed-head, passed-tail, then-same, unless}
-use Rattle.window.proofs.Views.{surveyed-few}
-use Rattle.window.proofs.Chains.{shape-then, shape-clear, same-length, measured, codes-whole}
-use Rattle.stack.specs.Sums.{impossibleIn, spread}
+use Rattle.verdict.proofs.Verdicts.{Test, Tabled, test, testFirst, tabled, tabled-then, then-same, then-clear, unless}
+use Rattle.verdict.proofs.Answers.{was-accepted}
+use Rattle.window.specs.Shape.{badCount, badSides, badScale, sitesOf}
+use Rattle.window.specs.View.{badCode, seen, one}
+use Rattle.window.specs.Judge.{otherThan, maskVerdict, walked}
+use Rattle.window.proofs.Sides.{frame-count, scale, sites-few}
+use Rattle.window.proofs.Walks.{walked-whole}
+use Rattle.window.proofs.Views.{surveyed-most}
+use Rattle.window.proofs.Judges.{mask-clear, mask-tabled}
+use Rattle.stack.specs.Sums.{stackLengths, impossibleIn, spread}
 use Rattle.stack.specs.Walk.{readable}
-use Rattle.stack.specs.Variance.{tooFew, sumsVerdict, varianceVerdict, varianceAnswered, varianceAnswer, variancePaperOf, variancePaper}
+use Rattle.stack.specs.Variance.{tooFew, sumsVerdict, varianceVerdict, varianceAnswer, variancePaperOf, variancePaper}
 use Rattle.stack.specs.declared.Variance.the-variants.{Figures, Refused}
-use Rattle.stack.proofs.Sites.{Possible, readable-whole, all-possible}
+use Rattle.stack.proofs.Sites.{sums-clear, sums-tabled, Possible, asked-whole, all-possible}
 
 -- 7 does not apply
 pub enough : (n k : ℕ) → tooFew n k ≡ false → (0 < n) × (2 ≤ k)
@@ -56,8 +56,9 @@ spread-exact n full k s q few bright most possible =
         omega arith
 
 module _ (w h full k : ℕ) (mask sums squares : List ℕ) where
-  abbrev sums-tests : List Test
-  sums-tests =
+  -- the tests in the order of document 01
+  abbrev pub tests : List Test
+  tests =
       test 1 0 (badSides w h)
       ∷ test 2 0 (badScale full)
       ∷ test 3 0 (badCount k)
@@ -67,38 +68,28 @@ module _ (w h full k : ℕ) (mask sums squares : List ℕ) where
       ∷ testFirst 5 (sitesOf w h) (badCode mask)
       ∷ test 7 0 (tooFew (sumTo (sitesOf w h) (one mask)) k)
       ∷ test 11 0 (impossibleIn (sitesOf w h) full k (seen mask sums) (seen mask squares))
+      ∷ test 14 0 (leb (2 ^ 53) (spread (sitesOf w h) k (seen mask sums) (seen mask squares)))
       ∷ []
 
-  sums-table : Tabled (sumsVerdict w h full k mask sums squares) sums-tests
-  unfolding sumsVerdict refuseFirst
-  sums-table = rw shape-then (tabled _ _)
-
-  -- the tests in the order of document 01
-  abbrev pub tests : List Test
-  tests = sums-tests ++ test 14 0 (leb (2 ^ 53) (spread (sitesOf w h) k (seen mask sums) (seen mask squares))) ∷ []
-
   pub table : Tabled (varianceVerdict w h full k mask sums squares) tests
-  unfolding varianceVerdict
-  table = tabled-then sums-table (tabled _ _)
+  unfolding varianceVerdict sumsVerdict
+  table =
+      tabled-then
+      (tabled-then (mask-tabled w h full mask (tabled _ []) (sums-tabled w h (length sums) (length squares))) (tabled _ (_ ∷ [])))
+      (tabled _ [])
 
-  -- what is judged of buffers of another length does not matter: 4 comes first
+  -- 7 is asked of what was counted in a whole mask, and 11 of the sums of a whole window: 4 comes first
   pub judged : (count : ℕ) → count ≡ sumTo (walked w h (length mask)) (one mask)
-      → shapeOf w h full
-      ⨟ refuseIf 3 0 (badCount k)
-      ⨟ refuseIf 4 0 (otherThan (sitesOf w h) (length mask))
-      ⨟ refuseIf 4 0 (otherThan (sitesOf w h) (length sums))
-      ⨟ refuseIf 4 0 (otherThan (sitesOf w h) (length squares))
-      ⨟ codesOf (walked w h (length mask)) mask
+      → maskVerdict w h full (refuseIf 3 0 (badCount k)) mask (stackLengths w h (length sums) (length squares))
       ⨟ refuseIf 7 0 (tooFew count k)
       ⨟ refuseIf 11 0 (readable full k (length mask) (length sums) (length squares) && impossibleIn (length mask) full k (seen mask sums) (seen mask squares))
       ≡ sumsVerdict w h full k mask sums squares
   unfolding sumsVerdict
   judged count n =
-      then-same (shapeOf w h full) (λ legal. then-same (refuseIf 3 0 (badCount k)) (λ good.
-      measured (sitesOf w h) (length mask) (λ m.
-      measured (sitesOf w h) (length sums) (λ s. measured (sitesOf w h) (length squares) (λ q.
-      let r = readable-whole w h full k mask sums squares (shape-clear w h full legal .1 .high) (frame-count k (unless 3 0 (badCount k) good) .high) m s q in
-      rw (codes-whole w h mask m, n, walked-whole w h (length mask) m, r, m))))))
+      then-same (maskVerdict w h full (refuseIf 3 0 (badCount k)) mask (stackLengths w h (length sums) (length squares))) (λ e.
+      let lent = mask-clear w h full mask e in
+      let asked = asked-whole w h full k mask sums squares (lent .2) (frame-count k (unless 3 0 (badCount k) (lent .0)) .high) (lent .1) in
+      rw (asked, n, walked-whole w h (length mask) (lent .2 .masked)))
 
   -- what is known of sums that 1 to 11 do not refuse
   pub record Accepted : Type 0 where
@@ -112,33 +103,26 @@ module _ (w h full k : ℕ) (mask sums squares : List ℕ) where
     pub possible : (i : ℕ) → i < sitesOf w h → Possible full k (seen mask sums i) (seen mask squares i)
 
   pub accepted : sumsVerdict w h full k mask sums squares ≡ verdict.Clear → Accepted
+  unfolding sumsVerdict
   accepted e =
-      let p₂ = passed-tail (sums-table .clear e) in
-      let p₃ = passed-tail p₂ in
-      let p₄ = passed-tail p₃ in
-      let s₄ = passed-tail p₄ in
-      let q₄ = passed-tail s₄ in
-      let p₇ = passed-tail (passed-tail q₄) in
-      let n = sitesOf w h in
-      let bright = scale full (passed-head p₂) .high in
-      let most = frame-count k (passed-head p₃) .high in
-      let both = enough (sumTo n (one mask)) k (passed-head p₇) in
+      let both = then-clear _ _ e in
+      let lent = mask-clear w h full mask (both .0) in
+      let long = sums-clear w h (length sums) (length squares) (lent .1) in
+      let stacked = then-clear _ _ (both .1) in
+      let some = enough (sumTo (sitesOf w h) (one mask)) k (unless 7 0 _ (stacked .0)) in
       record {
-        masked = same-length n (length mask) (passed-head p₄);
-        summed = same-length n (length sums) (passed-head s₄);
-        squared = same-length n (length squares) (passed-head q₄);
-        bright = bright;
-        most = most;
-        least = both .1;
-        some = both .0;
-        possible = all-possible n full k (seen mask sums) (seen mask squares) (passed-head (passed-tail p₇));
+        masked = lent .2 .masked;
+        summed = long .0;
+        squared = long .1;
+        bright = scale full (lent .2 .scaled) .high;
+        most = frame-count k (unless 3 0 (badCount k) (lent .0)) .high;
+        least = some .1;
+        some = some .0;
+        possible = all-possible (sitesOf w h) full k (seen mask sums) (seen mask squares) (unless 11 0 _ (stacked .1));
       }
 
   -- so the quotient is of two numbers that have exact floats
   module _ (a : Accepted) where
-    pub few-enough : sumTo (sitesOf w h) (one mask) ≤ 16384
-    few-enough = omega (arith, surveyed-few mask (sitesOf w h), sites-few w h)
-
     pub ranged : Ranged (spread (sitesOf w h) k (seen mask sums) (seen mask squares)) (sumTo (sitesOf w h) (one mask) * (k * k))
     ranged =
         let square = times-le k k 100 100 (a .most) (a .most) in
@@ -146,7 +130,7 @@ module _ (w h full k : ℕ) (mask sums squares : List ℕ) where
         record {
           top = omega (arith, spread-exact (sitesOf w h) full k (seen mask sums) (seen mask squares) (sites-few w h) (a .bright) (a .most) (a .possible));
           some = mul-pos (a .some) (mul-pos frames frames);
-          bottom = omega (arith, times-le (sumTo (sitesOf w h) (one mask)) (k * k) 16384 10000 few-enough square);
+          bottom = omega (arith, times-le (sumTo (sitesOf w h) (one mask)) (k * k) 16384 10000 (surveyed-most w h mask) square);
         }
 
   -- what a variance that is answered says
@@ -154,11 +138,9 @@ module _ (w h full k : ℕ) (mask sums squares : List ℕ) where
       → (varianceVerdict w h full k mask sums squares ≡ verdict.Clear)
       × (p ≡ spread (sitesOf w h) k (seen mask sums) (seen mask squares)) × (q ≡ sumTo (sitesOf w h) (one mask) * (k * k)) × (x ≡ quotient p q)
   unfolding varianceAnswer
-  answer-is p q x = by (varianceVerdict w h full k mask sums squares)
-    where
-      by : (v : Verdict) {a b : ℕ} → varianceAnswered v a b ≡ Figures p q x → (v ≡ verdict.Clear) × (p ≡ a) × (q ≡ b) × (x ≡ quotient p q)
-      by verdict.Clear e = (refl, cc, cc, cc)
-      by (verdict.Refused r) e = let z : _≡_ {A = ℕ} 0 1 = cc in absurd (omega arith)
+  answer-is p q x e =
+      let was = was-accepted (varianceVerdict w h full k mask sums squares) (λ r f. let z : _≡_ {A = ℕ} 0 1 = cc in absurd (omega arith)) e in
+      (was .0, cc, cc, cc)
 
   -- what is answered where 1 to 11 refuse
   pub sums-refused : (r : Refusal) → sumsVerdict w h full k mask sums squares ≡ verdict.Refused r
@@ -200,7 +182,7 @@ module _ (w h full k : ℕ) (mask sums squares : List ℕ) where
       numerator-refused r f = rw (sym rest ∙ f) (refl, refl)
 
       pub denominator-fits : count * (k * k) ≤ 16384 * 10000
-      denominator-fits = times-le count (k * k) 16384 10000 (omega (arith, counted, few-enough (accepted clear))) frames-fit
+      denominator-fits = times-le count (k * k) 16384 10000 (omega (arith, counted, surveyed-most w h mask)) frames-fit
 
       pub accepted-is : (v : Float) → refuseIf 14 0 (leb (2 ^ 53) p) ≡ verdict.Clear → v ≡ quotientOrZero p (count * (k * k))
           → (Figures p (count * (k * k)) v ≡ varianceAnswer w h full k mask sums squares)

@@ -9,14 +9,14 @@ use Rattle.verdict.specs.Verdict.{_⨟_, refuseIf, ifClear}
 use Rattle.verdict.specs.Answer.{answerOf, Paper, acceptedPaper, refusedPaper, paperFor}
 use Rattle.window.specs.Judge.{frameVerdict}
 use Rattle.verdict.specs.declared.Verdict.{Verdict}
-use Rattle.stack.specs.Sums.{sumsLong, impossibleIn, squared, added}
+use Rattle.stack.specs.Sums.{stackLengths, impossibleIn, squared, added}
 use Rattle.stack.specs.declared.Added.{Added}
 use Rattle.stack.specs.declared.Added.the-variants.{Frames, Refused}
 
 -- the refusals in their order: 1 to 6, 3 of the count, 4 of the sums too, then 11 and 12
 unfoldable pub addVerdict : ℕ → ℕ → ℕ → ℕ → List ℕ → List ℕ → List ℕ → List ℕ → Verdict
 addVerdict w h full k mask frame sums squares =
-    frameVerdict w h full (refuseIf 3 0 (ltb 100 k)) mask frame (sumsLong w h (length sums) (length squares))
+    frameVerdict w h full (refuseIf 3 0 (ltb 100 k)) mask frame (stackLengths w h (length sums) (length squares))
     ⨟ refuseIf 11 0 (impossibleIn (sitesOf w h) full k (seen mask sums) (seen mask squares))
     ⨟ refuseIf 12 0 (eqb k 100)
 

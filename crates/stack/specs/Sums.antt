@@ -11,9 +11,9 @@ use Rattle.verdict.specs.Verdict.{_⨟_}
 use Rattle.verdict.specs.declared.Verdict.{Verdict}
 use Rattle.window.specs.Judge.{lengthOf}
 
--- 4, of so many sums and sums of squares
-abbrev pub sumsLong : ℕ → ℕ → ℕ → ℕ → Verdict
-sumsLong w h sums squares = lengthOf w h sums ⨟ lengthOf w h squares
+-- 4 of a stack's two buffers, by their lengths
+abbrev pub stackLengths : ℕ → ℕ → ℕ → ℕ → Verdict
+stackLengths w h sums squares = lengthOf w h sums ⨟ lengthOf w h squares
 
 -- s > k × full scale, q > k × full scale², or k × q < s²
 unfoldable pub impossible : ℕ → ℕ → ℕ → ℕ → Bool

@@ -13,7 +13,7 @@ use Rattle.verdict.specs.Verdict.{_⨟_, refuseIf}
 use Rattle.verdict.specs.Answer.{answerOf, Paper, acceptedPaper, refusedPaper, paperFor}
 use Rattle.window.specs.Judge.{maskVerdict}
 use Rattle.verdict.specs.declared.Verdict.{Verdict}
-use Rattle.stack.specs.Sums.{sumsLong, impossibleIn, spread}
+use Rattle.stack.specs.Sums.{stackLengths, impossibleIn, spread}
 use Rattle.stack.specs.declared.Variance.{Variance}
 use Rattle.stack.specs.declared.Variance.the-variants.{Figures, Refused}
 
@@ -24,7 +24,7 @@ tooFew sites k = eqb sites 0 || ltb k 2
 -- refusals 1 to 5, 7 and 11, in their order
 unfoldable pub sumsVerdict : ℕ → ℕ → ℕ → ℕ → List ℕ → List ℕ → List ℕ → Verdict
 sumsVerdict w h full k mask sums squares =
-    maskVerdict w h full (refuseIf 3 0 (badCount k)) mask (sumsLong w h (length sums) (length squares))
+    maskVerdict w h full (refuseIf 3 0 (badCount k)) mask (stackLengths w h (length sums) (length squares))
     ⨟ refuseIf 7 0 (tooFew (sumTo (sitesOf w h) (one mask)) k)
     ⨟ refuseIf 11 0 (impossibleIn (sitesOf w h) full k (seen mask sums) (seen mask squares))
 

@@ -7,7 +7,7 @@ ghost use Rattle.laws.specs.Sum.{sumTo};
 ghost use Rattle.window.specs.Judge.{walked};
 ghost use Rattle.window.specs.View.{seenAt, seen, one};
 ghost use Rattle.verdict.specs.Verdict.{refuseIf};
-ghost use Rattle.stack.specs.Sums.{sumsLong, impossible, impossibleIn, squared, added, spread};
+ghost use Rattle.stack.specs.Sums.{stackLengths, impossible, impossibleIn, squared, added, spread};
 ghost use Rattle.stack.specs.Walk.{readable};
 ghost use Rattle.stack.specs.Variance.{tooFew, sumsVerdict, varianceAnswer, variancePaperOf, variancePaper};
 ghost use Rattle.stack.specs.Add.{addVerdict, addAnswer, addPaperOf, addPaper, addSums, addSquares};
@@ -87,9 +87,9 @@ fn possible(full_scale: u64, frames: u64, mask: &[u8], sums: &[u32], squares: &[
     Verdict::Clear
 }
 
-// Refusal 4, of the sums and the sums of squares.
-fn sums_long(width: usize, height: usize, sums: usize, squares: usize) -> Verdict
-    ensures { λ r. ⌜ r ≡ sumsLong width height sums squares ⌝ }
+// Refusal 4 of the sums and the sums of squares.
+fn stack_lengths(width: usize, height: usize, sums: usize, squares: usize) -> Verdict
+    ensures { λ r. ⌜ r ≡ stackLengths width height sums squares ⌝ }
 {
     verdict::then(
         window::length(width, height, sums),
@@ -98,7 +98,7 @@ fn sums_long(width: usize, height: usize, sums: usize, squares: usize) -> Verdic
 }
 
 // Refusals 1 to 6, 11 and 12 of a frame that is offered.
-fn judge_frame(
+fn judge_add(
     width: usize,
     height: usize,
     full_scale: u64,
@@ -111,7 +111,7 @@ fn judge_frame(
     ensures { λ r. ⌜ r ≡ addVerdict width height «full_scale» frames (now (mask .entry)) (now (frame .entry)) (now (sums .entry)) (now (squares .entry)) ⌝ }
 {
     let count = verdict::refuse_if(3, 0, 100 < frames);
-    let lengths = sums_long(width, height, sums.len(), squares.len());
+    let lengths = stack_lengths(width, height, sums.len(), squares.len());
     let lent = window::judge_frame(width, height, full_scale, count, mask, frame, lengths);
     let impossible = possible(full_scale, frames, mask, sums, squares);
     let full = verdict::refuse_if(12, 0, frames == 100);
@@ -149,7 +149,7 @@ pub fn stack_add(
     ensures sums { λ r. ⌜ now (sums .exit) ≡ addSums width height «full_scale» frames (now (mask .entry)) (now (frame .entry)) (now (sums .entry)) (now (squares .entry)) ⌝ }
     ensures squares { λ r. ⌜ now (squares .exit) ≡ addSquares width height «full_scale» frames (now (mask .entry)) (now (frame .entry)) (now (sums .entry)) (now (squares .entry)) ⌝ }
 {
-    match judge_frame(
+    match judge_add(
         width,
         height,
         full_scale,
@@ -191,7 +191,7 @@ fn spread(frames: u64, mask: &[u8], sums: &[u32], squares: &[u32]) -> u64
 }
 
 // Refusals 1 to 5, 7 and 11 of a stack with this many surveyed sites.
-fn judge_stack(
+fn judge_variance(
     width: usize,
     height: usize,
     full_scale: u64,
@@ -205,7 +205,7 @@ fn judge_stack(
     ensures { λ r. ⌜ r ≡ sumsVerdict width height «full_scale» frames (now (mask .entry)) (now (sums .entry)) (now (squares .entry)) ⌝ }
 {
     let bad = verdict::refuse_if(3, 0, window::bad_count(frames));
-    let lengths = sums_long(width, height, sums.len(), squares.len());
+    let lengths = stack_lengths(width, height, sums.len(), squares.len());
     let lent = window::judge_mask(width, height, full_scale, bad, mask, lengths);
     let few = verdict::refuse_if(7, 0, too_few(count, frames));
     let impossible = possible(full_scale, frames, mask, sums, squares);
@@ -226,7 +226,7 @@ pub fn stack_variance(
     ensures paper { λ r. ⌜ variancePaperOf r ≡ variancePaper width height «full_scale» frames (now (mask .entry)) (now (sums .entry)) (now (squares .entry)) ⌝ }
 {
     let count = window::surveyed(width, height, mask);
-    let lent = judge_stack(
+    let lent = judge_variance(
         width,
         height,
         full_scale,

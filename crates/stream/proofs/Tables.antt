@@ -4,7 +4,7 @@ use mathlib.Core.Bool.{false}
 use mathlib.Core.List.{List, [], _∷_, _++_}
 use mathlib.Core.Path.{_≡_, ap₂, _∙_}
 use native.Mathlib.Omega.{arith}
-use lib.Dec.{ltb, eqb}
+use lib.Dec.{ltb}
 use lib.ListN.{length, getD}
 use borrow.Author.Tests.{ne-eqb, ltb-false}
 use Rattle.laws.specs.Sum.{sumTo}
@@ -103,8 +103,15 @@ module _ (w h full black : ℕ) (mask first second : List ℕ) where
     own : {parameters : Verdict} → Framed w h full mask first → frameVerdict w h full parameters mask first Clear ≡ parameters
     unfolding frameVerdict maskVerdict
     own {parameters} of =
-        simp (clear-shape w h full (of .of .legal) (of .of .scaled), clear-length (sitesOf w h) (length mask) m, clear-length (sitesOf w h) (length first) f,
-        clear-codes (sitesOf w h) mask (of .of .codes), clear-samples (sitesOf w h) full (seen mask first) (of .range), clear-first, then-end)
+        simp (
+          clear-shape w h full (of .of .legal) (of .of .scaled),
+          clear-length (sitesOf w h) (length mask) m,
+          clear-length (sitesOf w h) (length first) f,
+          clear-codes (sitesOf w h) mask (of .of .codes),
+          clear-samples (sitesOf w h) full (seen mask first) (of .range),
+          clear-first,
+          then-end,
+        )
 
     dark-left : pairVerdict w h full mask first second ≡ Clear → darkVerdict w h full black mask first ≡ refuseIf 3 0 (ltb full black)
     unfolding pairVerdict darkVerdict spreadOf

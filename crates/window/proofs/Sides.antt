@@ -1,9 +1,9 @@
 -- What legal sides, a legal full scale and a legal count of frames are, and how many sites the sides make.
 use Prim.Native.Nat.{ℕ, _*_, _%_, _≤_, _<_}
-use mathlib.Core.Bool.{true, false, not, _||_}
+use mathlib.Core.Bool.{Bool, true, false, not, _||_}
 use mathlib.Core.Logic.{⊎-elim}
-use mathlib.Core.Path.{_≡_}
-use native.Mathlib.Nat.{mul-le-mul}
+use mathlib.Core.Path.{_≡_, refl}
+use native.Mathlib.Nat.{mul-comm, mul-le-mul}
 use native.Mathlib.Omega.{arith}
 use lib.Dec.{eqb, ltb}
 use borrow.Author.Tests.{ltb-false, eqb-true, eqb-false, not-false}
@@ -56,6 +56,21 @@ sites-few w h =
     (λ e. omega (arith, no-sites w h e))
     (λ e. let s = sides w h e in omega (arith, s .sites))
     (true-or-false (badSides w h))
+
+-- a window that is turned has as many sites, and is refused alike
+pub turned-sides : (w h : ℕ) → badSides h w ≡ badSides w h
+unfolding badSides
+turned-sides w h = by (badSide h) (badSide w)
+  where
+    by : (a b : Bool) → (a || b) ≡ (b || a)
+    by true true = refl
+    by true false = refl
+    by false true = refl
+    by false false = refl
+
+pub turned-sites : (w h : ℕ) → sitesOf h w ≡ sitesOf w h
+unfolding sitesOf
+turned-sites w h = rw (turned-sides w h, mul-comm w h)
 
 pub record Count (k : ℕ) : Type 0 where
   pub low : 1 ≤ k

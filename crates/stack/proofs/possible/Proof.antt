@@ -1,8 +1,8 @@
 -- `possible` is right because it walks the sums that can be read, and asks nothing of any others.
 use mathlib.Core.Path.{sym, ap, _∙_}
 use borrow.Author.Needs.{needs}
-use Rattle.stack.proofs.Turns.{asked-all, not-asked}
 use Rattle.verdict.specs.Verdict.{refuseIf}
+use Rattle.stack.proofs.Turns.{asked-all, not-asked}
 use Rattle.stack.proofs.possible.Statement.{statement}
 use Rattle.stack.proofs.possible.Tie as tie
 

@@ -2,9 +2,9 @@
 use mathlib.Core.Path.{_≡_, sym, _∙_}
 use native.Mathlib.Omega.{arith}
 use borrow.Author.Needs.{needs}
+use Rattle.verdict.specs.declared.Verdict.the-variants as verdict
 use Rattle.stack.proofs.Adds.{Accepted, accepted, sum-room, square-room, refused-is, accepted-is}
 use Rattle.stack.specs.Add.{addVerdict}
-use Rattle.verdict.specs.declared.Verdict.the-variants as verdict
 use Rattle.stack.proofs.stack_add.Statement.{statement}
 use Rattle.stack.proofs.stack_add.Tie as tie
 
@@ -14,14 +14,14 @@ Begun c = c .before .before .before .before .before .before .before .before .bef
 clear : (c : tie.After-enum-told)
     → addVerdict (Begun c .args .width) (Begun c .args .height) (Begun c .args .full-scale) (Begun c .args .frames) (Begun c .args .mask .now) (Begun c .args .frame .now) (Begun c .args .sums .now) (Begun c .args .squares .now)
     ≡ verdict.Clear
-clear c = sym (c .before .before .judge-frame .ensures) ∙ c .enum-told .given .1
+clear c = sym (c .before .before .judge-add .ensures) ∙ c .enum-told .given .1
 
 known : (c : tie.After-enum-told)
     → Accepted (Begun c .args .width) (Begun c .args .height) (Begun c .args .full-scale) (Begun c .args .frames) (Begun c .args .mask .now) (Begun c .args .frame .now) (Begun c .args .sums .now) (Begun c .args .squares .now)
 known c = accepted _ _ _ _ _ _ _ _ (clear c)
 
-judge-frame-requires : tie.Need-judge-frame-requires
-judge-frame-requires c κs = search needs
+judge-add-requires : tie.Need-judge-add-requires
+judge-add-requires c κs = search needs
 
 enum-known-refusal : tie.Need-enum-known-refusal
 enum-known-refusal c = search needs
@@ -33,9 +33,9 @@ add-seen-requires : tie.Need-add-seen-requires
 add-seen-requires c κs = let e = c .before .before in
     let a = known e in
     let s = e .before .before .before .before .before in (
-      a .framed ∙ sym (a .masked),
-      a .summed ∙ sym (a .masked),
-      a .square-summed ∙ sym (a .masked),
+      a .lent .framed ∙ sym (a .lent .of .masked),
+      a .summed ∙ sym (a .lent .of .masked),
+      a .square-summed ∙ sym (a .lent .of .masked),
       λ i l. sum-room _ _ _ _ _ _ _ _ a i l (omega (arith, s .before .slice-known .given i)),
       λ i l. square-room _ _ _ _ _ _ _ _ a i l (omega (arith, s .slice-known2 .given i)),
     )
@@ -50,7 +50,7 @@ same-length-2 : tie.Need-same-length-2
 same-length-2 c = search needs
 
 returns : tie.Need-returns
-returns c = refused-is _ _ _ _ _ _ _ _ _ (sym (c .before .before .before .judge-frame .ensures) ∙ c .before .refusal .given .1)
+returns c = refused-is _ _ _ _ _ _ _ _ _ (sym (c .before .before .before .judge-add .ensures) ∙ c .before .refusal .given .1)
 
 same-length-3 : tie.Need-same-length-3
 same-length-3 c = search needs
@@ -67,7 +67,7 @@ pub stack-add-spec : {M : Type 1} → statement M
 stack-add-spec =
     tie.close
     (tie.spec
-    judge-frame-requires
+    judge-add-requires
     enum-known-refusal
     enum-told
     add-seen-requires

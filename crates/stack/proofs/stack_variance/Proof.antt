@@ -14,19 +14,19 @@ Begun c = c .before .before .before .before .before .before .before
 clear : (c : tie.After-enum-told)
     → sumsVerdict (Begun c .args .width) (Begun c .args .height) (Begun c .args .full-scale) (Begun c .args .frames) (Begun c .args .mask .now) (Begun c .args .sums .now) (Begun c .args .squares .now)
     ≡ verdict.Clear
-clear c = sym (c .before .before .judge-stack .ensures) ∙ c .enum-told .given .1
+clear c = sym (c .before .before .judge-variance .ensures) ∙ c .enum-told .given .1
 
 surveyed-requires : tie.Need-surveyed-requires
 surveyed-requires c κs = search needs
 
-judge-stack-requires : tie.Need-judge-stack-requires
-judge-stack-requires c κs = search needs
+judge-variance-requires : tie.Need-judge-variance-requires
+judge-variance-requires c κs = search needs
 
 enum-known-lent : tie.Need-enum-known-lent
 enum-known-lent c = search needs
 
 returns : tie.Need-returns
-returns c = sums-refused _ _ _ _ _ _ _ _ (sym (c .before .before .before .judge-stack .ensures) ∙ c .before .lent .given .1)
+returns c = sums-refused _ _ _ _ _ _ _ _ (sym (c .before .before .before .judge-variance .ensures) ∙ c .before .lent .given .1)
 
 enum-told : tie.Need-enum-told
 enum-told c = search needs
@@ -69,7 +69,7 @@ stack-variance-spec =
     tie.close
     (tie.spec
     surveyed-requires
-    judge-stack-requires
+    judge-variance-requires
     enum-known-lent
     returns
     enum-told

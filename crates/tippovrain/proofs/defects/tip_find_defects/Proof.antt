@@ -1,4 +1,5 @@
 -- `tip_find_defects` is right because it hands out the paper's numbers of the answer, each in its place.
+use Prim.Native.Nat.{ℕ}
 use mathlib.Core.Path.{sym, ap, _∙_}
 use borrow.Author.Needs.{needs}
 use Rattle.verdict.specs.Answer.{Paper}
