@@ -9,18 +9,18 @@ use lib.Dec.{eqb, ltb}
 use lib.ListN.{length}
 use borrow.Author.Tests.{ltb-false, eqb-false}
 use Rattle.laws.proofs.Cases.{neither, times-le}
-use Rattle.window.specs.Shape.{badSides, badScale, sitesOf}
-use Rattle.window.specs.View.{badCode, above, seen, one}
 use Rattle.verdict.specs.Verdict.{_⨟_}
-use Rattle.window.specs.Judge.{otherThan}
-use Rattle.plane.specs.Plane.{boxSums}
 use Rattle.verdict.specs.declared.Refusal.{Refusal}
-use Rattle.plane.specs.declared.Sums.{Sums}
 use Rattle.verdict.specs.declared.Verdict.the-variants as verdict
-use Rattle.window.proofs.Sides.{Sides, sides, scale}
 use Rattle.verdict.proofs.Verdicts.{Test, Tabled, test, testFirst, tabled, tabled-none, tabled-then, then-clear, unless}
 use Rattle.verdict.proofs.Answers.{was-accepted}
+use Rattle.window.specs.Shape.{badSides, badScale, sitesOf}
+use Rattle.window.specs.View.{badCode, above, seen, one}
+use Rattle.window.specs.Judge.{otherThan}
+use Rattle.window.proofs.Sides.{Sides, sides, scale}
 use Rattle.window.proofs.Judges.{frame-clear, frame-tabled}
+use Rattle.plane.specs.Plane.{boxSums}
+use Rattle.plane.specs.declared.Sums.{Sums}
 use Rattle.colour.specs.Bayer.{mosaicOf, centresOf}
 use Rattle.colour.specs.Centre.{centreOf, tooSmall, centreSums, someEmpty}
 use Rattle.colour.specs.Colour.{aboveBlack, notAbove, ratioOf, centresSeen, lentVerdict, centresVerdict, colourVerdict, colourAnswer, paperOf, colourPaper}
@@ -151,10 +151,10 @@ module _ (w h full black order : ℕ) (mask frame : List ℕ) where
     unfolding colourVerdict _⨟_
     rest = rw clear (ap (λ (seen : Centres). centresVerdict w h black seen) whole)
 
-  pub frame-refused : (r : Refusal) → lentVerdict w h full black order mask frame ≡ verdict.Refused r
+  pub lent-refused : (r : Refusal) → lentVerdict w h full black order mask frame ≡ verdict.Refused r
       → colourVerdict w h full black order mask frame ≡ verdict.Refused r
   unfolding colourVerdict _⨟_
-  frame-refused r e = rw e
+  lent-refused r e = rw e
 
   pub refused-is : (r : Refusal) → colourVerdict w h full black order mask frame ≡ verdict.Refused r
       → (Refused r ≡ colourAnswer w h full black order mask frame) × (paperOf (Refused r) ≡ colourPaper w h full black order mask frame)

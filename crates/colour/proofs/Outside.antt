@@ -5,16 +5,16 @@ use mathlib.Core.List.{List}
 use mathlib.Core.Path.{_≡_, refl, sym, ap, ap₂, _∙_, subst, fun-ext}
 use lib.Dec.{ltb}
 use lib.ListN.{length}
-use Rattle.window.specs.Shape.{sitesOf}
-use Rattle.window.specs.View.{seen, one}
 use Rattle.verdict.specs.Verdict.{_⨟_, refuseIf, refuseFirst, numberOf}
-use Rattle.window.specs.Judge.{shapeOf, lengthOf, codesOf, samplesOf, maskVerdict, frameVerdict}
-use Rattle.plane.specs.Plane.{planeRow, planeColumn, sums}
-use Rattle.plane.specs.declared.Sums.{Sums}
 use Rattle.verdict.specs.Answer.{answerOf}
 use Rattle.verdict.specs.declared.Verdict.{Verdict}
 use Rattle.verdict.specs.declared.Verdict.the-variants as verdict
 use Rattle.verdict.proofs.Verdicts.{not-given, then-assoc}
+use Rattle.window.specs.Shape.{sitesOf}
+use Rattle.window.specs.View.{seen, one}
+use Rattle.window.specs.Judge.{shapeOf, lengthOf, codesOf, samplesOf, maskVerdict, frameVerdict}
+use Rattle.plane.specs.Plane.{planeRow, planeColumn, sums}
+use Rattle.plane.specs.declared.Sums.{Sums}
 use Rattle.plane.proofs.Planes.{box-seen}
 use Rattle.colour.specs.Bayer.{centresOf}
 use Rattle.colour.specs.Centre.{centreOf}

@@ -7,13 +7,13 @@ use native.Mathlib.Omega.{arith}
 use lib.Dec.{eqb}
 use lib.ListN.{length, getD}
 use Rattle.laws.proofs.Sole.{Sole, sole}
-use Rattle.window.specs.Shape.{sitesOf}
-use Rattle.window.specs.View.{surveyed, seen, one}
-use Rattle.plane.specs.Plane.{rowParity, columnParity}
-use Rattle.window.specs.Judge.{frameVerdict}
 use Rattle.verdict.proofs.Verdicts.{Tabled, Refuses, refuses}
 use Rattle.verdict.proofs.Answers.{paper-told}
+use Rattle.window.specs.Shape.{sitesOf}
+use Rattle.window.specs.View.{surveyed, seen, one}
+use Rattle.window.specs.Judge.{frameVerdict}
 use Rattle.window.proofs.Views.{Agree, same-view}
+use Rattle.plane.specs.Plane.{rowParity, columnParity}
 use Rattle.colour.specs.Bayer.{mosaic, mosaicOf}
 use Rattle.colour.specs.Centre.{centreOf}
 use Rattle.colour.specs.Colour.{centresSeen, lentVerdict, colourVerdict, noFigures, colourAnswer, paperOf, colourPaper}

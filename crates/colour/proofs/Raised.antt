@@ -8,14 +8,14 @@ use lib.Dec.{ltb}
 use lib.ListN.{length, getD}
 use borrow.Author.Tests.{le-ltb}
 use Rattle.laws.proofs.Firsts.{first-ext}
-use Rattle.window.specs.Shape.{sitesOf}
-use Rattle.window.specs.View.{surveyed, above, seen, one}
 use Rattle.verdict.specs.Verdict.{_⨟_, refuseIf, refuseFirst}
-use Rattle.window.specs.Judge.{samplesOf, frameVerdict}
 use Rattle.verdict.specs.declared.Verdict.{Verdict}
-use Rattle.window.proofs.Sides.{Sides}
 use Rattle.verdict.proofs.Verdicts.{then-same}
 use Rattle.verdict.proofs.Answers.{answer-same}
+use Rattle.window.specs.Shape.{sitesOf}
+use Rattle.window.specs.View.{surveyed, above, seen, one}
+use Rattle.window.specs.Judge.{samplesOf, frameVerdict}
+use Rattle.window.proofs.Sides.{Sides}
 use Rattle.window.proofs.Views.{seen-most, seen-raised}
 use Rattle.plane.proofs.Planes.{box-above}
 use Rattle.colour.specs.Bayer.{mosaicOf}

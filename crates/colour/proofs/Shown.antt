@@ -8,11 +8,11 @@ use lib.ListN.{length}
 use Rattle.laws.proofs.Cases.{times-le}
 use Rattle.window.specs.Shape.{sitesOf}
 use Rattle.window.specs.View.{seen, one}
+use Rattle.window.proofs.Sides.{Sides}
+use Rattle.window.proofs.Views.{one-le, seen-counted}
 use Rattle.plane.specs.Plane.{boxSums}
 use Rattle.plane.specs.declared.PlaneBox.{PlaneBox}
 use Rattle.plane.specs.declared.Sums.{Sums}
-use Rattle.window.proofs.Sides.{Sides}
-use Rattle.window.proofs.Views.{one-le, seen-counted}
 use Rattle.plane.proofs.Planes.{box-few, box-at-most, sums-accepted}
 use Rattle.colour.specs.Bayer.{mosaicOf, centresOf}
 use Rattle.colour.specs.Centre.{centreOf, centreSums}

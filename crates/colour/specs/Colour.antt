@@ -6,13 +6,13 @@ use lib.Dec.{ltb}
 use lib.IntN.{ℤ, pos, natAbs, _*ℤ_}
 use lib.Signed.{ltZ}
 use Rattle.laws.specs.Signed.{_⊖_}
-use Rattle.window.specs.View.{seen, one}
 use Rattle.verdict.specs.Verdict.{_⨟_, refuseIf}
 use Rattle.verdict.specs.Answer.{answerOf, Paper, acceptedPaper, refusedPaper, paperFor}
-use Rattle.window.specs.Judge.{frameVerdict}
-use Rattle.plane.specs.declared.Sums.{Sums}
 use Rattle.verdict.specs.declared.Verdict.{Verdict}
 use Rattle.verdict.specs.declared.Verdict.the-variants as verdict
+use Rattle.window.specs.View.{seen, one}
+use Rattle.window.specs.Judge.{frameVerdict}
+use Rattle.plane.specs.declared.Sums.{Sums}
 use Rattle.colour.specs.Bayer.{centresOf}
 use Rattle.colour.specs.Centre.{tooSmall, centreSums, someEmpty}
 use Rattle.colour.specs.declared.Centres.{Centres}

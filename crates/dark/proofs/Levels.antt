@@ -7,17 +7,17 @@ use lib.Dec.{eqb, ltb}
 use lib.IntN.{ℤ}
 use lib.ListN.{length}
 use borrow.Author.Tests.{ltb-false, eqb-false}
-use Rattle.window.proofs.Walks.{walked-whole}
 use Rattle.laws.specs.Sum.{sumTo}
-use Rattle.window.specs.Shape.{badSides, badScale, sitesOf}
-use Rattle.window.specs.View.{badCode, above, seen, one}
 use Rattle.verdict.specs.Verdict.{_⨟_, refuseIf}
-use Rattle.window.specs.Judge.{otherThan, frameVerdict, walked}
 use Rattle.verdict.specs.declared.Refusal.{Refusal}
 use Rattle.verdict.specs.declared.Verdict.the-variants as verdict
-use Rattle.window.proofs.Sides.{scale, sites-few}
 use Rattle.verdict.proofs.Verdicts.{Test, Tabled, test, testFirst, tabled, tabled-none, tabled-then, then-same, then-clear, unless}
 use Rattle.verdict.proofs.Answers.{was-accepted}
+use Rattle.window.proofs.Walks.{walked-whole}
+use Rattle.window.specs.Shape.{badSides, badScale, sitesOf}
+use Rattle.window.specs.View.{badCode, above, seen, one}
+use Rattle.window.specs.Judge.{otherThan, frameVerdict, walked}
+use Rattle.window.proofs.Sides.{scale, sites-few}
 use Rattle.window.proofs.Judges.{frame-clear, frame-tabled}
 use Rattle.dark.specs.Dark.{aboveBlack, darkVerdict, darkAnswer, paperOf, darkPaper}
 use Rattle.dark.specs.declared.Dark.the-variants.{Level, Refused}

@@ -10,11 +10,11 @@ use Rattle.laws.specs.Sum.{sumTo}
 use Rattle.laws.specs.Signed.{_⊖_}
 use Rattle.laws.proofs.Signeds.{⊖-below, ⊖-self, ⊖-cross}
 use Rattle.laws.proofs.Sole.{Sole, sole}
+use Rattle.verdict.proofs.Verdicts.{Tabled, Refuses, refuses}
+use Rattle.verdict.proofs.Answers.{paper-told}
 use Rattle.window.specs.Shape.{sitesOf}
 use Rattle.window.specs.View.{seen, one}
 use Rattle.window.specs.Judge.{frameVerdict}
-use Rattle.verdict.proofs.Verdicts.{Tabled, Refuses, refuses}
-use Rattle.verdict.proofs.Answers.{paper-told}
 use Rattle.window.proofs.Views.{Agree, same-view}
 use Rattle.dark.specs.Dark.{aboveBlack, darkVerdict, noFigures, darkAnswer, paperOf, darkPaper}
 use Rattle.dark.specs.declared.Dark.the-variants.{Level}

@@ -6,6 +6,7 @@ use mathlib.Core.List.{List}
 use mathlib.Core.Path.{_≡_, refl}
 use lib.ListN.{length}
 use Rattle.verdict.specs.Verdict.{numberOf, placeOf}
+use Rattle.verdict.specs.Answer.{Paper}
 use Rattle.verdict.specs.declared.Verdict.{Verdict}
 use Rattle.verdict.proofs.Verdicts.{Test, Tabled, Refuses}
 use Rattle.raw.specs.Unpack.{unpackVerdict, unpackPaper, unpackBuffer}
@@ -51,67 +52,67 @@ use Rattle.stream.specs.Job.{jobVerdict, jobPaper}
 use Rattle.stream.specs.Job as jobs
 use Rattle.stream.proofs.Promises as stream
 
--- of one call: what it tests, the number and the place of its answer, and what else is so where it refuses
-pub record Refusing (verdict : Verdict) (tests : List Test) (number place : ℕ) (Untouched : Type 0) : Type 0 where
+-- of one call: what it tests, the numbers of its answer, and what else is so where it refuses
+pub record Refusing {F : Type 0} (verdict : Verdict) (tests : List Test) (paper : Paper F) (Untouched : Type 0) : Type 0 where
   -- a number is given, at a place, exactly where a test of the table has them and applies, and none before it does
   pub given : Tabled verdict tests
   -- these are the paper's number and place
-  pub told : (number ≡ numberOf verdict) × (place ≡ placeOf verdict)
+  pub told : (paper .number ≡ numberOf verdict) × (paper .place ≡ placeOf verdict)
   -- where the number is not 0 the rest is untouched, and where it is 0 so is the place
-  pub refused : Refuses number place Untouched
+  pub refused : Refuses (paper .number) (paper .place) Untouched
 
 pub record Demand1 : Type 0 where
   pub unpack-raw10 : (w h : ℕ) (bytes out : List ℕ)
       → let paper = unpackPaper w h (length bytes) (length out) in
-      Refusing (unpackVerdict w h (length bytes) (length out)) (raw-table.tests w h (length bytes) (length out)) (paper .number) (paper .place)
+      Refusing (unpackVerdict w h (length bytes) (length out)) (raw-table.tests w h (length bytes) (length out)) paper
       (unpackBuffer w h bytes out ≡ out)
   pub pair-variance : (w h full : ℕ) (mask first second : List ℕ)
       → let paper = pair-answers.variancePaper w h full mask first second in
-      Refusing (pairVerdict w h full mask first second) (pair.tests w h full mask first second) (paper .number) (paper .place)
+      Refusing (pairVerdict w h full mask first second) (pair.tests w h full mask first second) paper
       (paper .figures ≡ pair-answers.noVariance)
   pub pair-noise : (w h full : ℕ) (mask first second : List ℕ)
       → let paper = pair-answers.noisePaper w h full mask first second in
-      Refusing (pairVerdict w h full mask first second) (pair.tests w h full mask first second) (paper .number) (paper .place)
+      Refusing (pairVerdict w h full mask first second) (pair.tests w h full mask first second) paper
       (paper .figures ≡ pair-answers.noNoise)
   pub dark-level : (w h full black : ℕ) (mask frame : List ℕ)
       → let paper = darkPaper w h full black mask frame in
-      Refusing (darkVerdict w h full black mask frame) (dark-table.tests w h full black mask frame) (paper .number) (paper .place)
+      Refusing (darkVerdict w h full black mask frame) (dark-table.tests w h full black mask frame) paper
       (paper .figures ≡ levels.noFigures)
   pub stack-add : (w h full k : ℕ) (mask frame sums squares : List ℕ)
       → let paper = addPaper w h full k mask frame sums squares in
-      Refusing (addVerdict w h full k mask frame sums squares) (add-table.tests w h full k mask frame sums squares) (paper .number) (paper .place)
+      Refusing (addVerdict w h full k mask frame sums squares) (add-table.tests w h full k mask frame sums squares) paper
       ((paper .figures ≡ 0) × (addSums w h full k mask frame sums squares ≡ sums) × (addSquares w h full k mask frame sums squares ≡ squares))
   pub stack-variance : (w h full k : ℕ) (mask sums squares : List ℕ)
       → let paper = variance.variancePaper w h full k mask sums squares in
-      Refusing (variance.varianceVerdict w h full k mask sums squares) (variance-table.tests w h full k mask sums squares) (paper .number) (paper .place)
+      Refusing (variance.varianceVerdict w h full k mask sums squares) (variance-table.tests w h full k mask sums squares) paper
       (paper .figures ≡ variance.noVariance)
   -- of columns it is the vertical call, of rows the horizontal one
   pub pattern-noise : (lines : ℕ → ℕ → pattern-lines.Lines) (w h full k : ℕ) (mask sums : List ℕ)
       → let paper = patternPaper lines w h full k mask sums in
-      Refusing (patternVerdict lines w h full k mask sums) (pattern-table.tests lines w h full k mask sums) (paper .number) (paper .place)
+      Refusing (patternVerdict lines w h full k mask sums) (pattern-table.tests lines w h full k mask sums) paper
       (paper .figures ≡ noFigures)
   pub find-defects : (w h full t : ℕ) (mask frame out : List ℕ)
       → let paper = findPaper w h full t mask frame (length out) in
-      Refusing (findVerdict w h full t mask frame (length out)) (find-tests w h full t mask frame (length out)) (paper .number) (paper .place)
+      Refusing (findVerdict w h full t mask frame (length out)) (find-tests w h full t mask frame (length out)) paper
       ((paper .figures ≡ 0) × (findMask w h full t mask frame out ≡ out))
   pub repair : (w h full : ℕ) (mask frame outFrame outMask : List ℕ)
       → let paper = repairPaper w h full mask frame (length outFrame) (length outMask) in
-      Refusing (repairVerdict w h full mask frame (length outFrame) (length outMask)) (repair-tests w h full mask frame (length outFrame) (length outMask)) (paper .number) (paper .place)
+      Refusing (repairVerdict w h full mask frame (length outFrame) (length outMask)) (repair-tests w h full mask frame (length outFrame) (length outMask)) paper
       ((paper .figures ≡ 0)
       × (repairFrame w h full mask frame outFrame (length outMask) ≡ outFrame)
       × (repairMask w h full mask frame (length outFrame) outMask ≡ outMask))
   -- of rows and of columns
   pub defective-lines : (lines : ℕ → ℕ → plane-lines.Lines) (w h full : ℕ) (mask frame marks : List ℕ)
       → let paper = linesPaper lines w h full mask frame (length marks) in
-      Refusing (linesVerdict lines w h full mask frame (length marks)) (lines-table.tests lines w h full mask frame (length marks)) (paper .number) (paper .place)
+      Refusing (linesVerdict lines w h full mask frame (length marks)) (lines-table.tests lines w h full mask frame (length marks)) paper
       (linesBuffer lines w h full mask frame marks ≡ marks)
   pub colour-ratios : (w h full black order : ℕ) (mask frame : List ℕ)
       → let paper = colourPaper w h full black order mask frame in
-      Refusing (colourVerdict w h full black order mask frame) (colour-table.tests w h full black order mask frame) (paper .number) (paper .place)
+      Refusing (colourVerdict w h full black order mask frame) (colour-table.tests w h full black order mask frame) paper
       (paper .figures ≡ ratios.noFigures)
   pub job : (s : List ℕ)
       → let paper = jobPaper s in
-      Refusing (jobVerdict s) (stream.tests s) (paper .number) (paper .place)
+      Refusing (jobVerdict s) (stream.tests s) paper
       (paper .figures ≡ jobs.noFigures)
 
 pub demand-1 : Demand1

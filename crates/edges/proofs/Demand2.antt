@@ -7,9 +7,9 @@ use mathlib.Core.List.{List}
 use mathlib.Core.Logic.{_⊎_}
 use mathlib.Core.Path.{_≡_}
 use lib.ListN.{length, getD}
+use Rattle.verdict.specs.declared.Verdict.the-variants as verdict
 use Rattle.window.specs.Shape.{sitesOf}
 use Rattle.window.specs.View.{surveyed}
-use Rattle.verdict.specs.declared.Verdict.the-variants as verdict
 use Rattle.window.proofs.Views.{Agree}
 use Rattle.pair.specs.Answers as pair-answers
 use Rattle.pair.proofs.Promises as pair

@@ -1,27 +1,27 @@
 -- Every row of the table holds by computing both sides.
 use mathlib.Core.Path.{refl}
 use lib.Ieee.{round, ofBits}
-use Rattle.window.specs.Shape.{badCount, badSide, badSides, badScale, sitesOf}
 use Rattle.laws.specs.First.{firstTo}
 use Rattle.laws.specs.Greatest.{greatestTo}
 use Rattle.laws.specs.Signed.{_⊖_, sumToℤ}
 use Rattle.laws.specs.Sum.{sumTo, sumIn, sumBox}
 use Rattle.laws.specs.Table.{tabulate}
-use Rattle.window.specs.Judge.{shapeOf, maskVerdict, frameVerdict}
-use Rattle.plane.specs.Plane.{boxSum}
-use Rattle.verdict.specs.Verdict.{_⨟_, refuseIf, refuseFirst}
-use Rattle.window.specs.View.{seenAt, seen, one}
 use Rattle.exact.specs.Root.{root, rootTo}
+use Rattle.verdict.specs.Verdict.{_⨟_, refuseIf, refuseFirst}
+use Rattle.window.specs.Shape.{badCount, badSide, badSides, badScale, sitesOf}
+use Rattle.window.specs.Judge.{shapeOf, maskVerdict, frameVerdict}
+use Rattle.window.specs.View.{seenAt, seen, one}
+use Rattle.plane.specs.Plane.{boxSum}
 use Rattle.raw.specs.Packed.{joined, sampleAt}
 use Rattle.raw.specs.Unpack.{unpackVerdict, unpackAnswer, unpackBuffer}
 use Rattle.pair.specs.Pair.{numerator, spreadOf, framesVerdict, pairVerdict}
 use Rattle.pair.specs.Answers.{varianceAnswer, noiseAnswer}
 use Rattle.dark.specs.Dark.{aboveBlack, darkVerdict, darkAnswer}
-use Rattle.sites.specs.Near.{nearSum}
-use Rattle.sites.specs.Find.{usedThreshold, far, foundAt, markedAt, foundCount, findVerdict, findAnswer, findMask}
 use Rattle.pattern.specs.Lines.{lineTotal}
 use Rattle.pattern.specs.Figures.{stepOf, standsOut, deviation, figuresOf}
 use Rattle.pattern.specs.Pattern.{patternVerdict, patternAnswer}
+use Rattle.sites.specs.Near.{nearSum}
+use Rattle.sites.specs.Find.{usedThreshold, far, foundAt, markedAt, foundCount, findVerdict, findAnswer, findMask}
 use Rattle.lines.specs.Lines.{before, after, pooled, defective, markOf, markAt}
 use Rattle.lines.specs.Marks.{linesVerdict, linesAnswer, linesBuffer}
 use Rattle.edges.specs.Table.{Edges, Beside}

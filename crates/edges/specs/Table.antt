@@ -15,11 +15,11 @@ use Rattle.pair.specs.declared.Variance.the-variants as variance
 use Rattle.pair.specs.declared.Noise.the-variants as noise
 use Rattle.dark.specs.Dark.{darkAnswer}
 use Rattle.dark.specs.declared.Dark.the-variants as dark
-use Rattle.sites.specs.Find.{findAnswer, findMask}
-use Rattle.sites.specs.declared.Defects.the-variants as sites
 use Rattle.pattern.specs.Lines.{columns}
 use Rattle.pattern.specs.Pattern.{patternAnswer}
 use Rattle.pattern.specs.declared.Pattern.the-variants as pattern
+use Rattle.sites.specs.Find.{findAnswer, findMask}
+use Rattle.sites.specs.declared.Defects.the-variants as sites
 use Rattle.lines.specs.Lines.{rows}
 use Rattle.lines.specs.Marks.{linesAnswer, linesBuffer}
 use Rattle.lines.specs.declared.Marked.the-variants as lines

@@ -101,12 +101,12 @@ module _ (w h : ℕ) {mask mask' : List ℕ} (m : Turned w h mask mask') where
       rw (some-turned w h (badCode mask) (badCode mask') (λ y x p q. ap (ltb 3) (sym (m .sites y x p q))))
       (twin-moved (firstTo (sitesOf w h) (badCode mask)) (firstTo (sitesOf w h) (badCode mask')) (someTo (sitesOf w h) (badCode mask)))
 
-  mask-turned : (full : ℕ) (numbers lengths : Verdict)
-      → Twin (maskVerdict w h full numbers mask lengths) (maskVerdict h w full numbers mask' lengths)
+  mask-turned : (full : ℕ) (parameters lengths : Verdict)
+      → Twin (maskVerdict w h full parameters mask lengths) (maskVerdict h w full parameters mask' lengths)
   unfolding maskVerdict shapeOf
-  mask-turned full numbers lengths =
+  mask-turned full parameters lengths =
       rw (turned-sides w h, turned-sites w h, m .long)
-      (twin-after (shapeOf w h full) (twin-after numbers (twin-after (lengthOf w h (length mask)) (twin-after lengths codes-turned))))
+      (twin-after (shapeOf w h full) (twin-after parameters (twin-after (lengthOf w h (length mask)) (twin-after lengths codes-turned))))
 
 total-turned : (w h : ℕ) (view other : ℕ → ℕ) (i : ℕ) → ((t : ℕ) → t < h → view (t * w + i) ≡ other (i * h + t))
     → lineTotal (columns w h) view i ≡ lineTotal (rows h w) other i

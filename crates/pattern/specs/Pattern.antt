@@ -5,12 +5,12 @@ use mathlib.Core.List.{List}
 use lib.Dec.{ltb}
 use lib.ListN.{length, getD}
 use Rattle.laws.specs.First.{someTo}
-use Rattle.window.specs.Shape.{sitesOf, badCount}
-use Rattle.window.specs.View.{surveyed, seen, above}
 use Rattle.verdict.specs.Verdict.{_⨟_, refuseIf}
 use Rattle.verdict.specs.Answer.{answerOf, Paper, acceptedPaper, refusedPaper, paperFor}
-use Rattle.window.specs.Judge.{lengthOf, maskVerdict}
 use Rattle.verdict.specs.declared.Verdict.{Verdict}
+use Rattle.window.specs.Shape.{sitesOf, badCount}
+use Rattle.window.specs.View.{surveyed, seen, above}
+use Rattle.window.specs.Judge.{lengthOf, maskVerdict}
 use Rattle.pattern.specs.Lines.{Lines, lineTotal}
 use Rattle.pattern.specs.Figures.{figuresOf, noFigures}
 use Rattle.pattern.specs.declared.Figures.{Figures}

@@ -12,12 +12,12 @@ use Rattle.laws.proofs.Sums.{box-ext, box-scaled, box-le, box-shift, box-cut, b
 use Rattle.window.specs.Shape.{sitesOf}
 use Rattle.window.specs.View.{seen, one}
 use Rattle.window.specs.Judge.{walked}
-use Rattle.plane.specs.Plane.{rowParity, columnParity, planeOf, planeRow, planeColumn, siteAt, boxSum, sums, boxSums}
-use Rattle.plane.specs.declared.PlaneBox.{PlaneBox}
-use Rattle.plane.specs.declared.Sums.{Sums}
 use Rattle.window.proofs.Sides.{Sides}
 use Rattle.window.proofs.Views.{seen-is, seen-le, seen-counted}
 use Rattle.window.proofs.Walks.{walked-whole}
+use Rattle.plane.specs.Plane.{rowParity, columnParity, planeOf, planeRow, planeColumn, siteAt, boxSum, sums, boxSums}
+use Rattle.plane.specs.declared.PlaneBox.{PlaneBox}
+use Rattle.plane.specs.declared.Sums.{Sums}
 
 module _ (w h plane u : ℕ) (low : u < h / 2) where
   -- a row of a plane lies inside the window

@@ -7,10 +7,10 @@ use lib.ListN.{length, getD}
 use Rattle.laws.specs.Table.{tabulate}
 use Rattle.laws.proofs.Tables.{getD-tabulate}
 use Rattle.laws.proofs.Sole.{Sole, sole}
-use Rattle.window.specs.Shape.{badSide, badSides, sitesOf}
 use Rattle.verdict.specs.Verdict.{_⨟_, refuseIf}
 use Rattle.verdict.proofs.Verdicts.{Tabled, Refuses, refuses}
 use Rattle.verdict.proofs.Answers.{paper-told}
+use Rattle.window.specs.Shape.{badSide, badSides, sitesOf}
 use Rattle.raw.specs.Packed.{sample10}
 use Rattle.raw.specs.Unpack.{unpackVerdict, unpackAnswer, paperOf, unpackPaper, unpackBuffer}
 use Rattle.raw.specs.declared.Unpacked.the-variants.{Done}

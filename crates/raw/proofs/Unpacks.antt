@@ -6,13 +6,13 @@ use native.Mathlib.Nat.{mul-assoc, mul-left-comm}
 use native.Mathlib.Omega.{arith}
 use lib.ListN.{length}
 use Rattle.laws.specs.Table.{tabulate}
-use Rattle.window.specs.Shape.{badSides, sitesOf}
-use Rattle.window.specs.Judge.{otherThan}
 use Rattle.verdict.specs.declared.Refusal.{Refusal}
 use Rattle.verdict.specs.declared.Verdict.the-variants as verdict
-use Rattle.window.proofs.Sides.{Sides, sides}
 use Rattle.verdict.proofs.Verdicts.{Test, Tabled, test, tabled, passed-head, passed-tail}
 use Rattle.verdict.proofs.Answers.{was-accepted}
+use Rattle.window.specs.Shape.{badSides, sitesOf}
+use Rattle.window.specs.Judge.{otherThan}
+use Rattle.window.proofs.Sides.{Sides, sides}
 use Rattle.window.proofs.Chains.{same-length}
 use Rattle.raw.specs.Packed.{sample10, length10}
 use Rattle.raw.specs.Unpack.{unpackVerdict, unpackAnswer, paperOf, unpackPaper, unpackBuffer}

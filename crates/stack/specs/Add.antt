@@ -3,12 +3,12 @@ use Prim.Native.Nat.{ℕ, _+_}
 use mathlib.Core.List.{List}
 use lib.Dec.{eqb, ltb}
 use lib.ListN.{length}
-use Rattle.window.specs.Shape.{sitesOf}
-use Rattle.window.specs.View.{seen}
 use Rattle.verdict.specs.Verdict.{_⨟_, refuseIf, ifClear}
 use Rattle.verdict.specs.Answer.{answerOf, Paper, acceptedPaper, refusedPaper, paperFor}
-use Rattle.window.specs.Judge.{frameVerdict}
 use Rattle.verdict.specs.declared.Verdict.{Verdict}
+use Rattle.window.specs.Shape.{sitesOf}
+use Rattle.window.specs.View.{seen}
+use Rattle.window.specs.Judge.{frameVerdict}
 use Rattle.stack.specs.Sums.{stackLengths, impossibleIn, squared, added}
 use Rattle.stack.specs.declared.Added.{Added}
 use Rattle.stack.specs.declared.Added.the-variants.{Frames, Refused}

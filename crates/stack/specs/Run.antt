@@ -2,10 +2,10 @@
 use Prim.Native.Nat.{ℕ, _+_}
 use mathlib.Core.List.{List, [], _∷_}
 use Rattle.laws.specs.Table.{tabulate}
-use Rattle.window.specs.Shape.{sitesOf}
 use Rattle.verdict.specs.Verdict.{_⨟_, ifClear}
 use Rattle.verdict.specs.declared.Verdict.{Verdict}
 use Rattle.verdict.specs.declared.Verdict.the-variants as verdict
+use Rattle.window.specs.Shape.{sitesOf}
 use Rattle.stack.specs.Add.{addVerdict, addSums, addSquares}
 
 -- the count that the caller keeps, and the sums that it lends

@@ -7,12 +7,12 @@ use lib.Ieee.{Float, binary64, ofBits}
 use lib.ListN.{length}
 use Rattle.laws.specs.Sum.{sumTo}
 use Rattle.exact.specs.Quotient.{quotient}
-use Rattle.window.specs.Shape.{sitesOf, badCount}
-use Rattle.window.specs.View.{seen, one}
 use Rattle.verdict.specs.Verdict.{_⨟_, refuseIf}
 use Rattle.verdict.specs.Answer.{answerOf, Paper, acceptedPaper, refusedPaper, paperFor}
-use Rattle.window.specs.Judge.{maskVerdict}
 use Rattle.verdict.specs.declared.Verdict.{Verdict}
+use Rattle.window.specs.Shape.{sitesOf, badCount}
+use Rattle.window.specs.View.{seen, one}
+use Rattle.window.specs.Judge.{maskVerdict}
 use Rattle.stack.specs.Sums.{stackLengths, impossibleIn, spread}
 use Rattle.stack.specs.declared.Variance.{Variance}
 use Rattle.stack.specs.declared.Variance.the-variants.{Figures, Refused}

@@ -9,11 +9,11 @@ use lib.Dec.{ltb}
 use lib.ListN.{length}
 use borrow.Author.Tests.{ltb-false}
 use Rattle.laws.proofs.Cases.{neither}
-use Rattle.window.specs.Shape.{badSides, sitesOf}
 use Rattle.verdict.specs.declared.Verdict.{Verdict}
 use Rattle.verdict.specs.declared.Verdict.the-variants.{Clear}
-use Rattle.window.proofs.Sides.{Sides, sides}
 use Rattle.verdict.proofs.Verdicts.{then-clear, unless}
+use Rattle.window.specs.Shape.{badSides, sitesOf}
+use Rattle.window.proofs.Sides.{Sides, sides}
 use Rattle.raw.specs.Packed.{length10}
 use Rattle.stream.specs.Fields.{Field, past, fieldAt, fieldsAt, pastAll, extraAt}
 use Rattle.stream.specs.Stream.{sideFields, bodyFields, wideSides, faultsOf, widthOf, heightOf, streamVerdict}

@@ -4,9 +4,9 @@ use mathlib.Core.List.{List, [], _∷_}
 use lib.Dec.{ltb}
 use lib.ListN.{length, getD, take, drop}
 use Rattle.verdict.specs.Verdict.{_⨟_, refuseIf}
-use Rattle.window.specs.Judge.{otherThan}
 use Rattle.verdict.specs.declared.Verdict.{Verdict}
 use Rattle.verdict.specs.declared.Verdict.the-variants.{Clear}
+use Rattle.window.specs.Judge.{otherThan}
 
 -- two bytes, the high one first
 unfoldable pub wordAt : List ℕ → ℕ → ℕ

@@ -4,9 +4,9 @@ use mathlib.Core.Bool.{Bool, _||_}
 use mathlib.Core.List.{List, [], _∷_}
 use lib.Dec.{ltb}
 use Rattle.laws.specs.Table.{tabulate}
-use Rattle.window.specs.Shape.{badSides, sitesOf}
 use Rattle.verdict.specs.Verdict.{_⨟_, refuseIf}
 use Rattle.verdict.specs.declared.Verdict.{Verdict}
+use Rattle.window.specs.Shape.{badSides, sitesOf}
 use Rattle.raw.specs.Packed.{sample10, length10}
 use Rattle.stream.specs.Fields.{Field, field, wordAt, bodyAt, fieldsAt, pastAll, extraAt}
 

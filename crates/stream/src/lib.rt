@@ -2,14 +2,14 @@
 ghost use mathlib.Core.Path.{_≡_};
 ghost use Prim.Native.Nat.{_+_, _*_, _<_, _≤_};
 ghost use lib.ListN.{length, getD, take};
+ghost use Rattle.verdict.specs.declared.Verdict.the-variants.{Clear};
+ghost use Rattle.window.specs.Shape.{sitesOf};
+ghost use Rattle.raw.specs.Unpack.{unpackVerdict};
+ghost use Rattle.pair.specs.Answers.{noisePaperOf};
 ghost use Rattle.stream.specs.Fields.{wordAt, field, fieldAt, fieldsAt, pastAll, extraAt};
 ghost use Rattle.stream.specs.Stream.{sideFields, bodyFields, wideSides, faultsOf, unpacked, streamVerdict};
 ghost use Rattle.stream.specs.Job.{jobAnswer, paperOf, jobPaper};
 ghost use Rattle.stream.specs.Walk.{together, directly};
-ghost use Rattle.window.specs.Shape.{sitesOf};
-ghost use Rattle.verdict.specs.declared.Verdict.the-variants.{Clear};
-ghost use Rattle.raw.specs.Unpack.{unpackVerdict};
-ghost use Rattle.pair.specs.Answers.{noisePaperOf};
 use dark::Dark;
 use pair::Noise;
 use pair::Variance;

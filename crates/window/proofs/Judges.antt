@@ -4,13 +4,13 @@ use mathlib.Core.Bool.{false}
 use mathlib.Core.List.{List, [], _∷_, _++_}
 use mathlib.Core.Path.{_≡_, ap, ap₂, _∙_}
 use lib.ListN.{length, getD}
-use Rattle.window.specs.Shape.{badSides, badScale, sitesOf}
-use Rattle.window.specs.View.{badCode, above, seen}
-use Rattle.window.specs.Judge.{shapeOf, otherThan, lengthOf, codesOf, samplesOf, maskVerdict, frameVerdict, walked}
 use Rattle.verdict.specs.Verdict.{_⨟_, refuseFirst}
 use Rattle.verdict.specs.declared.Verdict.{Verdict}
 use Rattle.verdict.specs.declared.Verdict.the-variants.{Clear}
 use Rattle.verdict.proofs.Verdicts.{Test, Tabled, test, testFirst, tabled, tabled-then, then-same, then-clear, clear-then}
+use Rattle.window.specs.Shape.{badSides, badScale, sitesOf}
+use Rattle.window.specs.View.{badCode, above, seen}
+use Rattle.window.specs.Judge.{shapeOf, otherThan, lengthOf, codesOf, samplesOf, maskVerdict, frameVerdict, walked}
 use Rattle.window.proofs.Chains.{shape-clear, clear-shape, shape-tabled, length-clear, clear-length, codes-clear, clear-codes, samples-clear, clear-samples, measured, codes-whole, samples-whole}
 
 -- a mask in a window that 1 to 5 do not refuse
@@ -41,9 +41,9 @@ module _ (w h full : ℕ) (mask : List ℕ) where
 
     pub clear-mask : Masked w h full mask → parameters ≡ Clear → lengths ≡ Clear → maskVerdict w h full parameters mask lengths ≡ Clear
     unfolding maskVerdict
-    clear-mask m n l =
+    clear-mask m p l =
         clear-then (clear-shape w h full (m .legal) (m .scaled))
-        (clear-then n
+        (clear-then p
         (clear-then (clear-length (sitesOf w h) (length mask) (m .masked))
         (clear-then l (clear-codes (sitesOf w h) mask (m .codes)))))
 
@@ -57,15 +57,15 @@ module _ (w h full : ℕ) (mask : List ℕ) where
       measured (sitesOf w h) (length mask) (λ e. then-same lengths (λ _. codes-whole w h mask e))))
 
   -- what `judge_mask` answers of verdicts that are known
-  pub mask-of : {r n l n′ l′ : Verdict} → r ≡ maskVerdict w h full n mask l → n ≡ n′ → l ≡ l′ → r ≡ maskVerdict w h full n′ mask l′
-  mask-of e p q = e ∙ ap₂ (λ (n l : Verdict). maskVerdict w h full n mask l) p q
+  pub mask-of : {r p l p′ l′ : Verdict} → r ≡ maskVerdict w h full p mask l → p ≡ p′ → l ≡ l′ → r ≡ maskVerdict w h full p′ mask l′
+  mask-of e f g = e ∙ ap₂ (λ (p l : Verdict). maskVerdict w h full p mask l) f g
 
   -- the call's own 4 is judged only of legal sides
-  pub mask-lent : (n : Verdict) {l l′ : Verdict} → (badSides w h ≡ false → l ≡ l′) → maskVerdict w h full n mask l ≡ maskVerdict w h full n mask l′
+  pub mask-lent : (p : Verdict) {l l′ : Verdict} → (badSides w h ≡ false → l ≡ l′) → maskVerdict w h full p mask l ≡ maskVerdict w h full p mask l′
   unfolding maskVerdict
-  mask-lent n f =
+  mask-lent p f =
       then-same (shapeOf w h full)
-      (λ e. ap (λ (v : Verdict). n ⨟ lengthOf w h (length mask) ⨟ v ⨟ codesOf (sitesOf w h) mask) (f (shape-clear w h full e .0)))
+      (λ e. ap (λ (v : Verdict). p ⨟ lengthOf w h (length mask) ⨟ v ⨟ codesOf (sitesOf w h) mask) (f (shape-clear w h full e .0)))
 
   -- the table of 1 to 5, the call's own tests in their places
   abbrev pub mask-tests : List Test → List Test → List Test
@@ -74,10 +74,10 @@ module _ (w h full : ℕ) (mask : List ℕ) where
       ∷ test 2 0 (badScale full)
       ∷ (parameters ++ (test 4 0 (otherThan (sitesOf w h) (length mask)) ∷ (lengths ++ (testFirst 5 (sitesOf w h) (badCode mask) ∷ []))))
 
-  pub mask-tabled : {parameters lengths : Verdict} {ns ls : List Test} → Tabled parameters ns → Tabled lengths ls
-      → Tabled (maskVerdict w h full parameters mask lengths) (mask-tests ns ls)
+  pub mask-tabled : {parameters lengths : Verdict} {ps ls : List Test} → Tabled parameters ps → Tabled lengths ls
+      → Tabled (maskVerdict w h full parameters mask lengths) (mask-tests ps ls)
   unfolding maskVerdict refuseFirst
-  mask-tabled n l = tabled-then (shape-tabled w h full) (tabled-then n (tabled-then (tabled _ []) (tabled-then l (tabled _ []))))
+  mask-tabled p l = tabled-then (shape-tabled w h full) (tabled-then p (tabled-then (tabled _ []) (tabled-then l (tabled _ []))))
 
 module _ (w h full : ℕ) (mask frame : List ℕ) where
   module _ {parameters lengths : Verdict} where
@@ -92,8 +92,8 @@ module _ (w h full : ℕ) (mask frame : List ℕ) where
 
     pub clear-frame : Framed w h full mask frame → parameters ≡ Clear → lengths ≡ Clear → frameVerdict w h full parameters mask frame lengths ≡ Clear
     unfolding frameVerdict
-    clear-frame f n l =
-        clear-then (clear-mask w h full mask (f .of) n (clear-then (clear-length (sitesOf w h) (length frame) (f .framed)) l))
+    clear-frame f p l =
+        clear-then (clear-mask w h full mask (f .of) p (clear-then (clear-length (sitesOf w h) (length frame) (f .framed)) l))
         (clear-samples (sitesOf w h) full (seen mask frame) (f .range))
 
   pub frame-judged : (parameters lengths : Verdict)
@@ -106,21 +106,21 @@ module _ (w h full : ℕ) (mask frame : List ℕ) where
       let masked = mask-clear w h full mask e in
       samples-whole w h full mask frame (masked .2 .masked) (length-clear (sitesOf w h) (length frame) (then-clear _ _ (masked .1) .0)))
 
-  pub frame-of : {r n l n′ l′ : Verdict} → r ≡ frameVerdict w h full n mask frame l → n ≡ n′ → l ≡ l′ → r ≡ frameVerdict w h full n′ mask frame l′
-  frame-of e p q = e ∙ ap₂ (λ (n l : Verdict). frameVerdict w h full n mask frame l) p q
+  pub frame-of : {r p l p′ l′ : Verdict} → r ≡ frameVerdict w h full p mask frame l → p ≡ p′ → l ≡ l′ → r ≡ frameVerdict w h full p′ mask frame l′
+  frame-of e f g = e ∙ ap₂ (λ (p l : Verdict). frameVerdict w h full p mask frame l) f g
 
-  pub frame-lent : (n : Verdict) {l l′ : Verdict} → (badSides w h ≡ false → l ≡ l′) → frameVerdict w h full n mask frame l ≡ frameVerdict w h full n mask frame l′
+  pub frame-lent : (p : Verdict) {l l′ : Verdict} → (badSides w h ≡ false → l ≡ l′) → frameVerdict w h full p mask frame l ≡ frameVerdict w h full p mask frame l′
   unfolding frameVerdict
-  frame-lent n f =
+  frame-lent p f =
       ap (λ (v : Verdict). v ⨟ samplesOf (sitesOf w h) full (seen mask frame))
-      (mask-lent w h full mask n (λ legal. ap (λ (v : Verdict). lengthOf w h (length frame) ⨟ v) (f legal)))
+      (mask-lent w h full mask p (λ legal. ap (λ (v : Verdict). lengthOf w h (length frame) ⨟ v) (f legal)))
 
   abbrev pub frame-tests : List Test → List Test → List Test
   frame-tests parameters lengths =
       mask-tests w h full mask parameters (test 4 0 (otherThan (sitesOf w h) (length frame)) ∷ lengths)
       ++ (testFirst 6 (sitesOf w h) (above full (seen mask frame)) ∷ [])
 
-  pub frame-tabled : {parameters lengths : Verdict} {ns ls : List Test} → Tabled parameters ns → Tabled lengths ls
-      → Tabled (frameVerdict w h full parameters mask frame lengths) (frame-tests ns ls)
+  pub frame-tabled : {parameters lengths : Verdict} {ps ls : List Test} → Tabled parameters ps → Tabled lengths ls
+      → Tabled (frameVerdict w h full parameters mask frame lengths) (frame-tests ps ls)
   unfolding frameVerdict refuseFirst
-  frame-tabled n l = tabled-then (mask-tabled w h full mask n (tabled-then (tabled _ []) l)) (tabled _ [])
+  frame-tabled p l = tabled-then (mask-tabled w h full mask p (tabled-then (tabled _ []) l)) (tabled _ [])

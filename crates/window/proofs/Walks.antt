@@ -8,11 +8,11 @@ use lib.Dec.{eqb, ltb}
 use borrow.Author.Tests.{eq-eqb, ne-eqb, eqb-true, eqb-false}
 use Rattle.laws.specs.First.{firstTo, someTo}
 use Rattle.laws.proofs.Cases.{true-or-false}
-use Rattle.window.specs.Shape.{sitesOf}
 use Rattle.laws.proofs.Firsts.{first-none}
 use Rattle.verdict.specs.Verdict.{refuseIf, refuseFirst}
-use Rattle.window.specs.Judge.{walked}
 use Rattle.verdict.specs.declared.Verdict.the-variants.{Clear}
+use Rattle.window.specs.Shape.{sitesOf}
+use Rattle.window.specs.Judge.{walked}
 use Rattle.window.proofs.Sides.{Sides, some-sites}
 
 -- h rows of w, which a buffer of this length holds

@@ -4,10 +4,10 @@ use mathlib.Core.Bool.{Bool, cond, not}
 use mathlib.Core.List.{List}
 use lib.Dec.{eqb}
 use lib.ListN.{length}
-use Rattle.window.specs.Shape.{badSides, badScale, sitesOf}
-use Rattle.window.specs.View.{badCode, above, seen}
 use Rattle.verdict.specs.Verdict.{_⨟_, refuseIf, refuseFirst}
 use Rattle.verdict.specs.declared.Verdict.{Verdict}
+use Rattle.window.specs.Shape.{badSides, badScale, sitesOf}
+use Rattle.window.specs.View.{badCode, above, seen}
 
 -- 1: a side is odd or not in 2..128; 2: full scale not in 1..4095
 unfoldable pub shapeOf : ℕ → ℕ → ℕ → Verdict

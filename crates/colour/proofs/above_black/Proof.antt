@@ -2,9 +2,9 @@
 use Prim.Native.Nat.{_*_, _≤_}
 use native.Mathlib.Omega.{arith}
 use borrow.Author.Needs.{needs}
-use Rattle.colour.specs.Colour.{aboveBlack}
 use Rattle.laws.proofs.Machine.{nat-fits, less-fits, less-is}
 use Rattle.laws.proofs.Cases.{times-le}
+use Rattle.colour.specs.Colour.{aboveBlack}
 use Rattle.colour.proofs.above_black.Statement.{statement}
 use Rattle.colour.proofs.above_black.Tie as tie
 

@@ -5,7 +5,7 @@ use native.Mathlib.Omega.{arith}
 use Rattle.verdict.specs.declared.Verdict.the-variants as verdict
 use Rattle.colour.specs.Colour.{lentVerdict, colourVerdict, centresSeen}
 use Rattle.colour.specs.declared.Centres.{Centres}
-use Rattle.colour.proofs.Judged.{fair, lent, accepted, whole, rest, frame-refused, refused-is, accepted-is}
+use Rattle.colour.proofs.Judged.{fair, lent, accepted, whole, rest, lent-refused, refused-is, accepted-is}
 use Rattle.colour.proofs.colour_ratios.Statement.{statement}
 use Rattle.colour.proofs.colour_ratios.Tie as tie
 
@@ -38,7 +38,7 @@ enum-known-lent : tie.Need-enum-known-lent
 enum-known-lent c = search needs
 
 returns : tie.Need-returns
-returns c = refused-is _ _ _ _ _ _ _ _ (frame-refused _ _ _ _ _ _ _ _ (sym (c .before .before .before .judge .ensures) ∙ c .before .lent .given .1))
+returns c = refused-is _ _ _ _ _ _ _ _ (lent-refused _ _ _ _ _ _ _ _ (sym (c .before .before .before .judge .ensures) ∙ c .before .lent .given .1))
 
 enum-told : tie.Need-enum-told
 enum-told c = search needs

@@ -1,7 +1,7 @@
 -- `not_above` is right because T is above 0 exactly where the samples' sum is above the black level for each site.
 use native.Mathlib.Omega.{arith}
-use Rattle.colour.proofs.Totals.{compared}
 use Rattle.laws.proofs.Cases.{times-le}
+use Rattle.colour.proofs.Totals.{compared}
 use Rattle.colour.proofs.not_above.Statement.{statement}
 use Rattle.colour.proofs.not_above.Tie as tie
 

@@ -4,11 +4,11 @@ use mathlib.Core.Path.{_≡_}
 use native.Mathlib.Omega.{arith}
 use lib.ListN.{length, getD}
 use borrow.Author.Needs.{needs}
-use Rattle.dark.specs.Dark.{aboveBlack}
 use Rattle.laws.proofs.Machine.{nat-fits, less-fits, Is}
-use Rattle.dark.proofs.Turns.{start, turn, turn-fits}
-use Rattle.window.specs.View.{seen, one}
 use Rattle.laws.specs.Sum.{sumTo}
+use Rattle.window.specs.View.{seen, one}
+use Rattle.dark.specs.Dark.{aboveBlack}
+use Rattle.dark.proofs.Turns.{start, turn, turn-fits}
 use Rattle.dark.proofs.above_black.Statement.{statement}
 use Rattle.dark.proofs.above_black.Tie as tie
 

@@ -4,12 +4,12 @@ use mathlib.Core.Path.{_≡_, sym, ap, _∙_}
 use mir.Val.{toZ, ofZ}
 use mir.Syntax.{w64}
 use borrow.Author.Needs.{needs}
+use Rattle.laws.specs.Sum.{sumTo}
+use Rattle.verdict.specs.declared.Verdict.the-variants as verdict
 use Rattle.window.proofs.Walks.{walked-whole}
+use Rattle.window.specs.View.{seen, one}
 use Rattle.dark.proofs.Levels.{accepted, refused-is, accepted-is}
 use Rattle.dark.specs.Dark.{aboveBlack, darkVerdict}
-use Rattle.verdict.specs.declared.Verdict.the-variants as verdict
-use Rattle.window.specs.View.{seen, one}
-use Rattle.laws.specs.Sum.{sumTo}
 use Rattle.dark.proofs.dark_level.Statement.{statement}
 use Rattle.dark.proofs.dark_level.Tie as tie
 

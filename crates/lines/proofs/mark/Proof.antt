@@ -5,11 +5,11 @@ use native.Mathlib.Nat.{mod-lt, div-add-mod'}
 use native.Mathlib.Omega.{arith}
 use lib.ListN.{length}
 use borrow.Author.Needs.{needs}
+use Rattle.laws.proofs.Tables.{Filling, filling-none, filling-more, filling-done}
+use Rattle.window.specs.View.{seen, one}
 use Rattle.lines.proofs.Pools.{held-in, mark-at}
 use Rattle.lines.specs.Lines.{markAt}
 use Rattle.lines.specs.Walk.{lined}
-use Rattle.window.specs.View.{seen, one}
-use Rattle.laws.proofs.Tables.{Filling, filling-none, filling-more, filling-done}
 use Rattle.lines.proofs.mark.Statement.{statement}
 use Rattle.lines.proofs.mark.Tie as tie
 

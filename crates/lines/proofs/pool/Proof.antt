@@ -4,9 +4,9 @@ use mathlib.Core.Path.{_≡_, ap₂, _∙_}
 use native.Mathlib.Omega.{arith}
 use lib.ListN.{getD}
 use borrow.Author.Needs.{needs}
+use Rattle.laws.proofs.Sums.{in-none, in-more}
 use Rattle.lines.specs.Lines.{before, after}
 use Rattle.lines.proofs.Pools.{pooledTo, pooled-is, before-in, after-in}
-use Rattle.laws.proofs.Sums.{in-none, in-more}
 use Rattle.lines.proofs.pool.Statement.{statement}
 use Rattle.lines.proofs.pool.Tie as tie
 

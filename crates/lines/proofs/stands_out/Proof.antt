@@ -5,8 +5,8 @@ use mathlib.Core.Bool.{_&&_}
 use native.Mathlib.Omega.{arith}
 use lib.Dec.{ltb}
 use borrow.Author.Needs.{needs}
-use Rattle.lines.specs.Lines.{defective}
 use Rattle.laws.proofs.Cases.{times-le}
+use Rattle.lines.specs.Lines.{defective}
 use Rattle.lines.proofs.stands_out.Statement.{statement}
 use Rattle.lines.proofs.stands_out.Tie as tie
 

@@ -4,8 +4,8 @@ use mathlib.Core.Path.{_≡_}
 use native.Mathlib.Omega.{arith}
 use lib.ListN.{length}
 use borrow.Author.Needs.{needs}
-use Rattle.pair.proofs.Walk.{Walked, walk-begins, walk-more, walk-ends}
 use Rattle.window.proofs.Views.{seen-le}
+use Rattle.pair.proofs.Walk.{Walked, walk-begins, walk-more, walk-ends}
 use Rattle.pair.proofs.sums.Statement.{statement}
 use Rattle.pair.proofs.sums.Tie as tie
 

@@ -3,8 +3,8 @@ use Prim.Native.Nat.{_*_, _-_}
 use native.Mathlib.Omega.{arith}
 use mir.Facts.{toZ-ofZ}
 use borrow.Author.Needs.{sfits-of, needs}
-use Rattle.pattern.specs.Figures.{figuresOf}
 use Rattle.laws.proofs.Cases.{times-le}
+use Rattle.pattern.specs.Figures.{figuresOf}
 use Rattle.pattern.proofs.figures_of.Statement.{statement}
 use Rattle.pattern.proofs.figures_of.Tie as tie
 

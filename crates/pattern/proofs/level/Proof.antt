@@ -3,11 +3,11 @@ use Prim.Native.Nat.{ℕ, _+_, _-_, _*_, _≤_}
 use mathlib.Core.Path.{_≡_, refl, ap, _∙_}
 use native.Mathlib.Omega.{arith}
 use borrow.Author.Needs.{needs}
+use Rattle.laws.proofs.Sums.{sum-none}
+use Rattle.laws.specs.Sum.{sumTo}
 use Rattle.pattern.proofs.Figuring.{level-more}
 use Rattle.pattern.specs.Figures.{stepOf}
 use Rattle.pattern.specs.Walk.{held}
-use Rattle.laws.proofs.Sums.{sum-none}
-use Rattle.laws.specs.Sum.{sumTo}
 use Rattle.pattern.proofs.level.Statement.{statement}
 use Rattle.pattern.proofs.level.Tie as tie
 

@@ -6,11 +6,11 @@ use mir.Facts.{toZ-ofZ}
 use mir.Val.{toZ}
 use mir.Syntax.{w64}
 use borrow.Author.Needs.{sfits-of, needs}
+use Rattle.laws.proofs.Greatests.{greatest-none}
+use Rattle.laws.specs.Greatest.{greatestTo}
 use Rattle.pattern.proofs.Figuring.{max-more}
 use Rattle.pattern.specs.Figures.{deviation}
 use Rattle.pattern.specs.Walk.{held}
-use Rattle.laws.proofs.Greatests.{greatest-none}
-use Rattle.laws.specs.Greatest.{greatestTo}
 use Rattle.pattern.proofs.max.Statement.{statement}
 use Rattle.pattern.proofs.max.Tie as tie
 

@@ -4,9 +4,9 @@ use mathlib.Core.Path.{_≡_, refl, sym, ap, _∙_}
 use native.Mathlib.Omega.{arith}
 use lib.ListN.{length}
 use borrow.Author.Needs.{needs}
-use Rattle.window.specs.View.{above}
 use Rattle.laws.proofs.Firsts.{some-none, some-more}
 use Rattle.laws.specs.First.{someTo}
+use Rattle.window.specs.View.{above}
 use Rattle.pattern.specs.Walk.{held}
 use Rattle.pattern.proofs.some_above.Statement.{statement}
 use Rattle.pattern.proofs.some_above.Tie as tie

@@ -1,8 +1,8 @@
 -- `stands_out` is right because two numbers below 2 ^ 63 are cast without loss, and their difference is the definition's.
 use native.Mathlib.Omega.{arith}
 use borrow.Author.Needs.{needs}
-use Rattle.pattern.specs.Figures.{standsOut}
 use Rattle.laws.proofs.Machine.{less-fits, less-is}
+use Rattle.pattern.specs.Figures.{standsOut}
 use Rattle.pattern.proofs.stands_out.Statement.{statement}
 use Rattle.pattern.proofs.stands_out.Tie as tie
 

@@ -4,9 +4,9 @@ use mathlib.Core.Path.{_≡_, refl, _∙_}
 use native.Mathlib.Omega.{arith}
 use lib.ListN.{length, length-set}
 use borrow.Author.Needs.{needs}
+use Rattle.laws.proofs.Tables.{Filling, filling-none, filling-done}
 use Rattle.raw.proofs.Samples.{fours, four, in-group}
 use Rattle.raw.specs.Packed.{sample10}
-use Rattle.laws.proofs.Tables.{Filling, filling-none, filling-done}
 use Rattle.raw.proofs.fill.Statement.{statement}
 use Rattle.raw.proofs.fill.Tie as tie
 

@@ -4,12 +4,12 @@ use mathlib.Core.Path.{_≡_, refl, sym, ap₂, _∙_}
 use native.Mathlib.Omega.{arith}
 use lib.ListN.{length, getD}
 use borrow.Author.Needs.{needs}
-use Rattle.stack.proofs.Turns.{has-room, one-added}
-use Rattle.stack.specs.Sums.{squared, added}
-use Rattle.window.proofs.Views.{seen-is}
-use Rattle.window.specs.View.{seen}
 use Rattle.laws.proofs.Tables.{Filling, filling-none, filling-done}
 use Rattle.laws.proofs.Cases.{times-le}
+use Rattle.window.proofs.Views.{seen-is}
+use Rattle.window.specs.View.{seen}
+use Rattle.stack.proofs.Turns.{has-room, one-added}
+use Rattle.stack.specs.Sums.{squared, added}
 use Rattle.stack.proofs.add_seen.Statement.{statement}
 use Rattle.stack.proofs.add_seen.Tie as tie
 

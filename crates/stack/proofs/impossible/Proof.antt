@@ -2,8 +2,8 @@
 use Prim.Native.Nat.{_*_, _≤_}
 use mathlib.Core.Path.{refl}
 use native.Mathlib.Omega.{arith}
-use Rattle.stack.specs.Sums.{impossible}
 use Rattle.laws.proofs.Cases.{times-le}
+use Rattle.stack.specs.Sums.{impossible}
 use Rattle.stack.proofs.impossible.Statement.{statement}
 use Rattle.stack.proofs.impossible.Tie as tie
 

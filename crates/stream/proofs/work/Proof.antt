@@ -4,11 +4,11 @@ use mathlib.Core.Path.{_≡_, ap₂, _∙_}
 use mathlib.Core.List.{List}
 use native.Mathlib.Omega.{arith}
 use borrow.Author.Needs.{needs}
+use Rattle.window.specs.Shape.{sitesOf}
 use Rattle.stream.proofs.Answers.{work-is}
 use Rattle.stream.proofs.Frames.{part-unpacks, mask-is, first-is, second-is}
 use Rattle.stream.proofs.Streams.{Faultless, faultless-as}
 use Rattle.stream.specs.Stream.{widthOf, heightOf, sitesIn}
-use Rattle.window.specs.Shape.{sitesOf}
 use Rattle.stream.proofs.work.Statement.{statement}
 use Rattle.stream.proofs.work.Tie as tie
 

@@ -4,9 +4,9 @@ use mathlib.Core.Path.{_≡_, refl, sym, ap, _∙_}
 use native.Mathlib.Omega.{arith}
 use lib.ListN.{length}
 use borrow.Author.Needs.{needs}
-use Rattle.window.specs.View.{codeAbove}
 use Rattle.laws.proofs.Firsts.{some-none, some-more}
 use Rattle.laws.specs.First.{someTo}
+use Rattle.window.specs.View.{codeAbove}
 use Rattle.window.proofs.some_code_above.Statement.{statement}
 use Rattle.window.proofs.some_code_above.Tie as tie
 

@@ -4,10 +4,10 @@ use mathlib.Core.Path.{sym, ap, _∙_}
 use native.Mathlib.Omega.{arith}
 use lib.ListN.{length}
 use borrow.Author.Needs.{needs}
-use Rattle.window.proofs.Walks.{Whole, walked-some}
-use Rattle.window.specs.View.{one}
 use Rattle.laws.proofs.Sums.{sum-none}
 use Rattle.laws.specs.Sum.{sumTo}
+use Rattle.window.proofs.Walks.{Whole, walked-some}
+use Rattle.window.specs.View.{one}
 use Rattle.window.proofs.surveyed.Statement.{statement}
 use Rattle.window.proofs.surveyed.Tie as tie
 

@@ -4,10 +4,10 @@ use mathlib.Core.Path.{ap₂, _≡_, sym, ap, _∙_}
 use native.Mathlib.Omega.{arith}
 use lib.ListN.{length}
 use borrow.Author.Needs.{needs}
-use Rattle.window.proofs.Views.{one-is, one-le, surveyed-few}
-use Rattle.window.specs.View.{one}
 use Rattle.laws.proofs.Sums.{sum-none, sum-more}
 use Rattle.laws.specs.Sum.{sumTo}
+use Rattle.window.proofs.Views.{one-is, one-le, surveyed-few}
+use Rattle.window.specs.View.{one}
 use Rattle.window.proofs.surveyed_few.Statement.{statement}
 use Rattle.window.proofs.surveyed_few.Tie as tie
 

@@ -1,8 +1,8 @@
 -- `tip_defective_columns` is right because it hands out the paper's numbers of the answer, each in its place.
 use mathlib.Core.Path.{sym, ap, _∙_}
 use borrow.Author.Needs.{needs}
-use Rattle.lines.specs.Marks.{paperOf}
 use Rattle.verdict.specs.Answer.{Paper, Nothing}
+use Rattle.lines.specs.Marks.{paperOf}
 use Rattle.tippovrain.proofs.marks.tip_defective_columns.Statement.{statement}
 use Rattle.tippovrain.proofs.marks.tip_defective_columns.Tie as tie
 
