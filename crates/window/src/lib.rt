@@ -51,7 +51,7 @@ pub fn sites(width: usize, height: usize) -> usize
 }
 
 // Refusals 1 and 2.
-pub fn shape(width: usize, height: usize, full_scale: u64) -> Verdict
+fn shape(width: usize, height: usize, full_scale: u64) -> Verdict
     ensures { λ r. ⌜ r ≡ shapeOf width height «full_scale» ⌝ }
 {
     let sides = verdict::refuse_if(1, 0, bad_sides(width, height));
@@ -185,7 +185,7 @@ pub fn walkable(width: usize, height: usize, long: usize) -> usize
 }
 
 // Refusal 5, of a mask that has the window's sites; any other is not walked.
-pub fn codes(width: usize, height: usize, mask: &[u8]) -> Verdict
+fn codes(width: usize, height: usize, mask: &[u8]) -> Verdict
     ensures { λ r. ⌜ r ≡ codesOf (walked width height (length (now (mask .entry)))) (now (mask .entry)) ⌝ }
 {
     let n = walkable(width, height, mask.len());
