@@ -16,9 +16,9 @@ use Rattle.verdict.proofs.Verdicts.{Test, Tabled, test, testFirst, tabled, tabl
 use Rattle.verdict.proofs.Answers.{was-accepted}
 use Rattle.window.specs.Shape.{badSides, badScale, sitesOf}
 use Rattle.window.specs.View.{badCode, above, seen, one}
-use Rattle.window.specs.Judge.{otherThan}
 use Rattle.window.proofs.Sides.{Sides, sides, scale}
-use Rattle.window.proofs.Judges.{frame-clear, frame-tabled}
+use Rattle.refusals.specs.Judge.{otherThan}
+use Rattle.refusals.proofs.Judges.{frame-clear, frame-tabled}
 use Rattle.plane.specs.Plane.{boxSums}
 use Rattle.plane.specs.declared.Sums.{Sums}
 use Rattle.colour.specs.Bayer.{mosaicOf, centresOf}

@@ -12,7 +12,7 @@ use Rattle.verdict.specs.declared.Verdict.the-variants as verdict
 use Rattle.verdict.proofs.Verdicts.{not-given, then-assoc}
 use Rattle.window.specs.Shape.{sitesOf}
 use Rattle.window.specs.View.{seen, one}
-use Rattle.window.specs.Judge.{shapeOf, lengthOf, codesOf, samplesOf, maskVerdict, frameVerdict}
+use Rattle.refusals.specs.Judge.{shapeOf, lengthOf, codesOf, samplesOf, maskVerdict, frameVerdict}
 use Rattle.plane.specs.Plane.{planeRow, planeColumn, sums}
 use Rattle.plane.specs.declared.Sums.{Sums}
 use Rattle.plane.proofs.Planes.{box-seen}

@@ -11,8 +11,8 @@ use Rattle.verdict.proofs.Verdicts.{Tabled, Refuses, refuses}
 use Rattle.verdict.proofs.Answers.{paper-told}
 use Rattle.window.specs.Shape.{sitesOf}
 use Rattle.window.specs.View.{surveyed, seen, one}
-use Rattle.window.specs.Judge.{frameVerdict}
 use Rattle.window.proofs.Views.{Agree, same-view}
+use Rattle.refusals.specs.Judge.{frameVerdict}
 use Rattle.plane.specs.Plane.{rowParity, columnParity}
 use Rattle.colour.specs.Bayer.{mosaic, mosaicOf}
 use Rattle.colour.specs.Centre.{centreOf}

@@ -14,9 +14,9 @@ use Rattle.verdict.proofs.Verdicts.{then-same}
 use Rattle.verdict.proofs.Answers.{answer-same}
 use Rattle.window.specs.Shape.{sitesOf}
 use Rattle.window.specs.View.{surveyed, above, seen, one}
-use Rattle.window.specs.Judge.{samplesOf, frameVerdict}
 use Rattle.window.proofs.Sides.{Sides}
 use Rattle.window.proofs.Views.{seen-most, seen-raised}
+use Rattle.refusals.specs.Judge.{samplesOf, frameVerdict}
 use Rattle.plane.proofs.Planes.{box-above}
 use Rattle.colour.specs.Bayer.{mosaicOf}
 use Rattle.colour.specs.Centre.{centreOf, centreSums, someEmpty}

@@ -11,7 +11,7 @@ use Rattle.verdict.specs.Answer.{answerOf, Paper, acceptedPaper, refusedPaper, 
 use Rattle.verdict.specs.declared.Verdict.{Verdict}
 use Rattle.verdict.specs.declared.Verdict.the-variants as verdict
 use Rattle.window.specs.View.{seen, one}
-use Rattle.window.specs.Judge.{frameVerdict}
+use Rattle.refusals.specs.Judge.{frameVerdict}
 use Rattle.plane.specs.declared.Sums.{Sums}
 use Rattle.colour.specs.Bayer.{centresOf}
 use Rattle.colour.specs.Centre.{tooSmall, centreSums, someEmpty}

@@ -170,7 +170,7 @@ fn judge(
     let black = verdict::refuse_if(3, 0, full_scale < black_level);
     let order = verdict::refuse_if(3, 0, 3 < bayer_order);
     let parameters = verdict::then(black, order);
-    window::judge_frame(
+    refusals::judge_frame(
         width,
         height,
         full_scale,

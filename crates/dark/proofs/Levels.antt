@@ -14,11 +14,11 @@ use Rattle.verdict.specs.declared.Verdict.the-variants as verdict
 use Rattle.verdict.proofs.Verdicts.{Test, Tabled, test, testFirst, tabled, tabled-none, tabled-then, then-same, then-clear, unless}
 use Rattle.verdict.proofs.Answers.{was-accepted}
 use Rattle.window.proofs.Walks.{walked-whole}
-use Rattle.window.specs.Shape.{badSides, badScale, sitesOf}
+use Rattle.window.specs.Shape.{badSides, badScale, sitesOf, walked}
 use Rattle.window.specs.View.{badCode, above, seen, one}
-use Rattle.window.specs.Judge.{otherThan, frameVerdict, walked}
 use Rattle.window.proofs.Sides.{scale, sites-few}
-use Rattle.window.proofs.Judges.{frame-clear, frame-tabled}
+use Rattle.refusals.specs.Judge.{otherThan, frameVerdict}
+use Rattle.refusals.proofs.Judges.{frame-clear, frame-tabled}
 use Rattle.dark.specs.Dark.{aboveBlack, darkVerdict, darkAnswer, paperOf, darkPaper}
 use Rattle.dark.specs.declared.Dark.the-variants.{Level, Refused}
 

@@ -14,8 +14,8 @@ use Rattle.verdict.proofs.Verdicts.{Tabled, Refuses, refuses}
 use Rattle.verdict.proofs.Answers.{paper-told}
 use Rattle.window.specs.Shape.{sitesOf}
 use Rattle.window.specs.View.{seen, one}
-use Rattle.window.specs.Judge.{frameVerdict}
 use Rattle.window.proofs.Views.{Agree, same-view}
+use Rattle.refusals.specs.Judge.{frameVerdict}
 use Rattle.dark.specs.Dark.{aboveBlack, darkVerdict, noFigures, darkAnswer, paperOf, darkPaper}
 use Rattle.dark.specs.declared.Dark.the-variants.{Level}
 use Rattle.dark.proofs.Levels.{tests, table, accepted, level-is}

@@ -11,7 +11,7 @@ use Rattle.verdict.specs.declared.Verdict.{Verdict}
 use Rattle.verdict.specs.declared.Verdict.the-variants as verdict
 use Rattle.window.specs.Shape.{sitesOf}
 use Rattle.window.specs.View.{seen, one}
-use Rattle.window.specs.Judge.{frameVerdict}
+use Rattle.refusals.specs.Judge.{frameVerdict}
 use Rattle.dark.specs.declared.Dark.{Dark}
 use Rattle.dark.specs.declared.Dark.the-variants.{Level, Refused}
 

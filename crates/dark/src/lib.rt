@@ -5,7 +5,7 @@ ghost use Prim.Native.Nat.{_≤_};
 ghost use lib.IntN.{pos};
 ghost use lib.ListN.{length};
 ghost use Rattle.laws.specs.Sum.{sumTo};
-ghost use Rattle.window.specs.Judge.{walked};
+ghost use Rattle.window.specs.Shape.{walked};
 ghost use Rattle.window.specs.View.{surveyed, seen, one};
 ghost use Rattle.dark.specs.Dark.{aboveBlack, darkVerdict, darkAnswer, paperOf, darkPaper};
 use verdict::Refusal;
@@ -31,7 +31,7 @@ fn judge(
     ensures { λ r. ⌜ r ≡ darkVerdict width height «full_scale» «black_level» (now (mask .entry)) (now (frame .entry)) ⌝ }
 {
     let black = verdict::refuse_if(3, 0, full_scale < black_level);
-    let lent = window::judge_frame(
+    let lent = refusals::judge_frame(
         width,
         height,
         full_scale,

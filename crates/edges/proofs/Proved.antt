@@ -9,8 +9,8 @@ use Rattle.laws.specs.Table.{tabulate}
 use Rattle.exact.specs.Root.{root, rootTo}
 use Rattle.verdict.specs.Verdict.{_⨟_, refuseIf, refuseFirst}
 use Rattle.window.specs.Shape.{badCount, badSide, badSides, badScale, sitesOf}
-use Rattle.window.specs.Judge.{shapeOf, maskVerdict, frameVerdict}
 use Rattle.window.specs.View.{seenAt, seen, one}
+use Rattle.refusals.specs.Judge.{shapeOf, maskVerdict, frameVerdict}
 use Rattle.plane.specs.Plane.{boxSum}
 use Rattle.raw.specs.Packed.{joined, sampleAt}
 use Rattle.raw.specs.Unpack.{unpackVerdict, unpackAnswer, unpackBuffer}

@@ -15,13 +15,13 @@ use Rattle.verdict.specs.declared.Verdict.{Verdict}
 use Rattle.verdict.specs.declared.Verdict.the-variants as verdict
 use Rattle.verdict.proofs.Verdicts.{Test, Tabled, test, testFirst, tabled, tabled-none, tabled-then, then-clear, unless}
 use Rattle.verdict.proofs.Answers.{was-accepted}
-use Rattle.window.specs.Shape.{badSides, badScale, sitesOf}
+use Rattle.window.specs.Shape.{badSides, badScale, sitesOf, walked}
 use Rattle.window.specs.View.{badCode, above, seen, one}
-use Rattle.window.specs.Judge.{otherThan, frameVerdict, walked}
 use Rattle.window.proofs.Sides.{Sides, sides}
 use Rattle.window.proofs.Walks.{walked-whole}
-use Rattle.window.proofs.Chains.{length-clear}
-use Rattle.window.proofs.Judges.{frame-clear, frame-lent, frame-tabled}
+use Rattle.refusals.specs.Judge.{otherThan, frameVerdict}
+use Rattle.refusals.proofs.Chains.{length-clear}
+use Rattle.refusals.proofs.Judges.{frame-clear, frame-lent, frame-tabled}
 use Rattle.lines.specs.Lines.{Lines, markAt}
 use Rattle.lines.specs.Walk.{lined}
 use Rattle.lines.specs.Marks.{marksOf, linesVerdict, linesAnswer, paperOf, linesPaper, linesBuffer}

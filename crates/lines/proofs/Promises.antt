@@ -15,8 +15,8 @@ use Rattle.verdict.specs.declared.Verdict.the-variants as verdict
 use Rattle.verdict.proofs.Verdicts.{Tabled, Refuses, refuses}
 use Rattle.verdict.proofs.Answers.{paper-told}
 use Rattle.window.specs.View.{surveyed, seen, one}
-use Rattle.window.specs.Judge.{frameVerdict}
 use Rattle.window.proofs.Views.{Agree, same-view}
+use Rattle.refusals.specs.Judge.{frameVerdict}
 use Rattle.plane.specs.Plane.{siteAt}
 use Rattle.plane.proofs.Planes.{site-in}
 use Rattle.lines.specs.Lines.{Lines, rows, columns, markOf, lineSum, markAt}

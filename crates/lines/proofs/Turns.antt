@@ -15,7 +15,7 @@ use Rattle.window.specs.Shape.{sitesOf}
 use Rattle.window.specs.View.{seenAt, seen, one}
 use Rattle.window.proofs.Sides.{sides, turned-sides, turned-sites}
 use Rattle.window.proofs.Views.{seen-is, one-is}
-use Rattle.window.proofs.Judges.{Masked, Framed, frame-clear, clear-frame}
+use Rattle.refusals.proofs.Judges.{Masked, Framed, frame-clear, clear-frame}
 use Rattle.plane.specs.Plane.{rowParity, columnParity, siteAt, boxSum}
 use Rattle.plane.proofs.Planes.{site-in, site-row, site-column}
 use Rattle.lines.specs.Lines.{rows, columns, markOf, lineSum}

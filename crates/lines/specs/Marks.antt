@@ -9,7 +9,7 @@ use Rattle.verdict.specs.Answer.{answerOf, Paper, acceptedPaper, refusedPaper, 
 use Rattle.verdict.specs.declared.Verdict.{Verdict}
 use Rattle.verdict.specs.declared.Verdict.the-variants as verdict
 use Rattle.window.specs.View.{seen, one}
-use Rattle.window.specs.Judge.{otherThan, frameVerdict}
+use Rattle.refusals.specs.Judge.{otherThan, frameVerdict}
 use Rattle.lines.specs.Lines.{Lines, markAt}
 use Rattle.lines.specs.declared.Marked.{Marked}
 use Rattle.lines.specs.declared.Marked.the-variants.{Done, Refused}

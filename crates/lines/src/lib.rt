@@ -4,7 +4,7 @@ ghost use Prim.Native.Nat.{ℕ, _+_, _*_, _/_, _%_, _<_, _≤_};
 ghost use lib.ListN.{length, getD};
 ghost use Rattle.laws.specs.Table.{tabulate};
 ghost use Rattle.window.specs.View.{seen, one};
-ghost use Rattle.window.specs.Judge.{walked};
+ghost use Rattle.window.specs.Shape.{walked};
 ghost use Rattle.lines.specs.Lines.{rows, columns, before, after, pooled, defective, markOf, lineSum, markAt};
 ghost use Rattle.lines.specs.Walk.{lined};
 ghost use Rattle.lines.specs.Marks.{linesVerdict, linesAnswer, paperOf, linesPaper, linesBuffer};
@@ -46,7 +46,7 @@ fn judge(
 {
     let lines = lines_of(vertical, width, height);
     let marked = verdict::refuse_if(4, 0, marks != marks_of(lines));
-    let lent = window::judge_frame(
+    let lent = refusals::judge_frame(
         width,
         height,
         full_scale,

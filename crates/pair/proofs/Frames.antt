@@ -6,11 +6,11 @@ use lib.ListN.{length}
 use Rattle.verdict.specs.Verdict.{_⨟_}
 use Rattle.verdict.specs.declared.Verdict.the-variants as verdict
 use Rattle.verdict.proofs.Verdicts.{then-same, then-clear}
-use Rattle.window.specs.Shape.{sitesOf}
+use Rattle.window.specs.Shape.{sitesOf, walked}
 use Rattle.window.specs.View.{seen}
-use Rattle.window.specs.Judge.{lengthOf, samplesOf, frameVerdict, walked}
-use Rattle.window.proofs.Chains.{length-clear, samples-clear, samples-whole}
-use Rattle.window.proofs.Judges.{Framed, frame-clear}
+use Rattle.refusals.specs.Judge.{lengthOf, samplesOf, frameVerdict}
+use Rattle.refusals.proofs.Chains.{length-clear, samples-clear, samples-whole}
+use Rattle.refusals.proofs.Judges.{Framed, frame-clear}
 use Rattle.pair.specs.Pair.{framesVerdict}
 
 -- what two frames are that 1 to 6 do not refuse

@@ -24,9 +24,9 @@ use Rattle.verdict.proofs.Verdicts.{Test, Tabled, Refuses, test, testFirst, tab
 use Rattle.verdict.proofs.Answers.{paper-told}
 use Rattle.window.specs.Shape.{badSides, badScale, sitesOf}
 use Rattle.window.specs.View.{badCode, above, seen, one}
-use Rattle.window.specs.Judge.{otherThan, frameVerdict}
 use Rattle.window.proofs.Views.{Agree, same-view}
-use Rattle.window.proofs.Judges.{frame-tabled}
+use Rattle.refusals.specs.Judge.{otherThan, frameVerdict}
+use Rattle.refusals.proofs.Judges.{frame-tabled}
 use Rattle.pair.specs.Pair.{difference, numerator, spreadOf, pairSpread, framesVerdict, pairVerdict}
 use Rattle.pair.specs.Answers.{noVariance, varianceAnswer, variancePaperOf, variancePaper, noNoise, noiseAnswer, noisePaperOf, noisePaper}
 use Rattle.pair.specs.declared.Variance.the-variants as variance

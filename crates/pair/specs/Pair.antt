@@ -14,7 +14,7 @@ use Rattle.verdict.specs.declared.Verdict.{Verdict}
 use Rattle.verdict.specs.declared.Verdict.the-variants as verdict
 use Rattle.window.specs.Shape.{sitesOf}
 use Rattle.window.specs.View.{one, seen}
-use Rattle.window.specs.Judge.{lengthOf, samplesOf, frameVerdict}
+use Rattle.refusals.specs.Judge.{lengthOf, samplesOf, frameVerdict}
 use Rattle.pair.specs.declared.Spread.{Spread}
 
 -- d: second frame minus first at a surveyed site; at any other, both are seen as 0

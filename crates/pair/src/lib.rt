@@ -52,8 +52,8 @@ fn judge(
 ) -> Verdict
     ensures { λ r. ⌜ r ≡ framesVerdict width height «full_scale» (now (mask .entry)) (now (first .entry)) (now (second .entry)) ⌝ }
 {
-    let lengths = window::length(width, height, second.len());
-    let of_first = window::judge_frame(
+    let lengths = refusals::length(width, height, second.len());
+    let of_first = refusals::judge_frame(
         width,
         height,
         full_scale,
@@ -62,7 +62,7 @@ fn judge(
         first,
         lengths,
     );
-    let of_second = window::samples(width, height, full_scale, mask, second);
+    let of_second = refusals::samples(width, height, full_scale, mask, second);
     verdict::then(of_first, of_second)
 }
 

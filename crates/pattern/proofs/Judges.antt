@@ -16,11 +16,11 @@ use Rattle.verdict.proofs.Verdicts.{Test, Tabled, test, testFirst, tabled, tabl
 use Rattle.verdict.proofs.Answers.{was-accepted}
 use Rattle.window.specs.Shape.{badCount, badSides, badScale, sitesOf}
 use Rattle.window.specs.View.{codeAbove, badCode, surveyed, seen, above}
-use Rattle.window.specs.Judge.{otherThan, lengthOf, maskVerdict}
 use Rattle.window.proofs.Sides.{frame-count, Sides, Scale, sides, scale}
 use Rattle.window.proofs.Views.{seen-is, seen-in}
-use Rattle.window.proofs.Chains.{length-clear, in-range}
-use Rattle.window.proofs.Judges.{mask-clear, mask-tabled}
+use Rattle.refusals.specs.Judge.{otherThan, lengthOf, maskVerdict}
+use Rattle.refusals.proofs.Chains.{length-clear, in-range}
+use Rattle.refusals.proofs.Judges.{mask-clear, mask-tabled}
 use Rattle.pattern.specs.Lines.{Lines, lineTotal}
 use Rattle.pattern.specs.Pattern.{unsurveyed, patternVerdict, patternFigures, patternAnswer, paperOf, patternPaper}
 use Rattle.pattern.specs.Walk.{lined, lineOf, held, Accepted}

@@ -20,9 +20,9 @@ use Rattle.verdict.specs.declared.Verdict.{Verdict}
 use Rattle.verdict.specs.declared.Verdict.the-variants.{Clear, Refused}
 use Rattle.window.specs.Shape.{badSides, sitesOf}
 use Rattle.window.specs.View.{badCode, surveyed, seenAt, seen, above}
-use Rattle.window.specs.Judge.{shapeOf, lengthOf, codesOf, maskVerdict}
 use Rattle.window.proofs.Sides.{sides, no-sites, turned-sides, turned-sites}
 use Rattle.window.proofs.Views.{seen-is}
+use Rattle.refusals.specs.Judge.{shapeOf, lengthOf, codesOf, maskVerdict}
 use Rattle.pattern.specs.Lines.{columns, rows, lineTotal}
 use Rattle.pattern.specs.Pattern.{unsurveyed, patternVerdict, patternFigures}
 use Rattle.pattern.specs.Walk.{held}

@@ -10,7 +10,7 @@ use Rattle.verdict.specs.Answer.{answerOf, Paper, acceptedPaper, refusedPaper, 
 use Rattle.verdict.specs.declared.Verdict.{Verdict}
 use Rattle.window.specs.Shape.{sitesOf, badCount}
 use Rattle.window.specs.View.{surveyed, seen, above}
-use Rattle.window.specs.Judge.{lengthOf, maskVerdict}
+use Rattle.refusals.specs.Judge.{lengthOf, maskVerdict}
 use Rattle.pattern.specs.Lines.{Lines, lineTotal}
 use Rattle.pattern.specs.Figures.{figuresOf, noFigures}
 use Rattle.pattern.specs.declared.Figures.{Figures}

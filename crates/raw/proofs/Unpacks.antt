@@ -11,9 +11,9 @@ use Rattle.verdict.specs.declared.Verdict.the-variants as verdict
 use Rattle.verdict.proofs.Verdicts.{Test, Tabled, test, tabled, passed-head, passed-tail}
 use Rattle.verdict.proofs.Answers.{was-accepted}
 use Rattle.window.specs.Shape.{badSides, sitesOf}
-use Rattle.window.specs.Judge.{otherThan}
 use Rattle.window.proofs.Sides.{Sides, sides}
-use Rattle.window.proofs.Chains.{same-length}
+use Rattle.refusals.specs.Judge.{otherThan}
+use Rattle.refusals.proofs.Chains.{same-length}
 use Rattle.raw.specs.Packed.{sample10, length10}
 use Rattle.raw.specs.Unpack.{unpackVerdict, unpackAnswer, paperOf, unpackPaper, unpackBuffer}
 use Rattle.raw.specs.declared.Unpacked.the-variants.{Done, Refused}

@@ -7,7 +7,7 @@ use Rattle.verdict.specs.Verdict.{_⨟_, refuseIf, ifClear}
 use Rattle.verdict.specs.Answer.{answerOf, Paper, acceptedPaper, refusedPaper, paperFor, Nothing, nothing}
 use Rattle.verdict.specs.declared.Verdict.{Verdict}
 use Rattle.window.specs.Shape.{badSides, sitesOf}
-use Rattle.window.specs.Judge.{otherThan, lengthOf}
+use Rattle.refusals.specs.Judge.{otherThan, lengthOf}
 use Rattle.raw.specs.Packed.{sample10, length10}
 use Rattle.raw.specs.declared.Unpacked.{Unpacked}
 use Rattle.raw.specs.declared.Unpacked.the-variants.{Done, Refused}

@@ -20,7 +20,7 @@ fn judge(width: usize, height: usize, bytes: usize, out: usize) -> Verdict
     let n = window::sites(width, height);
     let sides = verdict::refuse_if(1, 0, window::bad_sides(width, height));
     let packed = verdict::refuse_if(4, 0, bytes != n * 5 / 4);
-    let unpacked = window::length(width, height, out);
+    let unpacked = refusals::length(width, height, out);
     verdict::then(sides, verdict::then(packed, unpacked))
 }
 

@@ -9,9 +9,9 @@ use Rattle.verdict.specs.declared.Verdict.the-variants.{Clear}
 use Rattle.verdict.proofs.Verdicts.{Tabled, Test, test, testFirst, tabled, tabled-none, tabled-then, then-clear, clear-then, unless, clear-unless}
 use Rattle.window.specs.Shape.{badSides, badScale, sitesOf}
 use Rattle.window.specs.View.{badCode, above, seen}
-use Rattle.window.specs.Judge.{otherThan}
-use Rattle.window.proofs.Chains.{length-clear, clear-length}
-use Rattle.window.proofs.Judges.{Framed, frame-clear, clear-frame, frame-tabled}
+use Rattle.refusals.specs.Judge.{otherThan}
+use Rattle.refusals.proofs.Chains.{length-clear, clear-length}
+use Rattle.refusals.proofs.Judges.{Framed, frame-clear, clear-frame, frame-tabled}
 use Rattle.sites.specs.Find.{findVerdict}
 use Rattle.sites.specs.Repair.{repairVerdict}
 

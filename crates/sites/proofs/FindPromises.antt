@@ -14,9 +14,9 @@ use Rattle.verdict.proofs.Verdicts.{Tabled, Refuses, refuses}
 use Rattle.verdict.proofs.Answers.{paper-told}
 use Rattle.window.specs.Shape.{sitesOf}
 use Rattle.window.specs.View.{seenAt, seen}
-use Rattle.window.specs.Judge.{frameVerdict}
 use Rattle.window.proofs.Sides.{sides}
 use Rattle.window.proofs.Views.{Agree, same-view, seen-out}
+use Rattle.refusals.specs.Judge.{frameVerdict}
 use Rattle.sites.specs.Find.{defaultThreshold, usedThreshold, foundAt, markedAt, foundCount, findVerdict, findAnswer, findPaperOf, findPaper, findMask}
 use Rattle.sites.specs.declared.Defects.the-variants.{Found}
 use Rattle.sites.proofs.Finds.{farAt, same-found, same-marked}

@@ -15,7 +15,7 @@ use Rattle.window.specs.Shape.{sitesOf}
 use Rattle.window.specs.View.{seenAt, seen, one}
 use Rattle.window.proofs.Sides.{Sides}
 use Rattle.window.proofs.Views.{seen-is, one-is}
-use Rattle.window.proofs.Judges.{Framed}
+use Rattle.refusals.proofs.Judges.{Framed}
 use Rattle.plane.specs.Plane.{rowParity, columnParity, planeOf, siteAt, boxSum}
 use Rattle.plane.proofs.Planes.{site-row, site-column}
 use Rattle.sites.specs.Near.{nearSum}

@@ -17,10 +17,10 @@ use Rattle.verdict.proofs.Verdicts.{Tabled, Refuses, refuses}
 use Rattle.verdict.proofs.Answers.{paper-told}
 use Rattle.window.specs.Shape.{sitesOf}
 use Rattle.window.specs.View.{seenAt, seen, one}
-use Rattle.window.specs.Judge.{frameVerdict}
 use Rattle.window.proofs.Sides.{sides}
 use Rattle.window.proofs.Views.{Agree, same-view, seen-is, one-is}
-use Rattle.window.proofs.Judges.{Framed}
+use Rattle.refusals.specs.Judge.{frameVerdict}
+use Rattle.refusals.proofs.Judges.{Framed}
 use Rattle.sites.specs.Near.{nearSum}
 use Rattle.sites.specs.Repair.{meanOf, filledAt, sampleAfter, codeAfter, filledCount, repairVerdict, repairAnswer, repairPaperOf, repairPaper, repairFrame, repairMask}
 use Rattle.sites.specs.declared.Repaired.the-variants.{Filled}

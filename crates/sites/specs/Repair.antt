@@ -12,7 +12,7 @@ use Rattle.verdict.specs.declared.Verdict.{Verdict}
 use Rattle.verdict.specs.declared.Verdict.the-variants as verdict
 use Rattle.window.specs.Shape.{sitesOf}
 use Rattle.window.specs.View.{defect, filled, one, seen}
-use Rattle.window.specs.Judge.{lengthOf, frameVerdict}
+use Rattle.refusals.specs.Judge.{lengthOf, frameVerdict}
 use Rattle.sites.specs.Near.{nearSum}
 use Rattle.sites.specs.declared.Repaired.{Repaired}
 use Rattle.sites.specs.declared.Repaired.the-variants.{Filled, Refused}

@@ -143,8 +143,8 @@ fn judge_find(
     ensures { λ r. ⌜ r ≡ findVerdict width height «full_scale» threshold (now (mask .entry)) (now (frame .entry)) out ⌝ }
 {
     let range = verdict::refuse_if(3, 0, 4095 < threshold);
-    let lengths = window::length(width, height, out);
-    window::judge_frame(width, height, full_scale, range, mask, frame, lengths)
+    let lengths = refusals::length(width, height, out);
+    refusals::judge_frame(width, height, full_scale, range, mask, frame, lengths)
 }
 
 pub fn find_defects(
@@ -263,10 +263,10 @@ fn judge_repair(
 ) -> Verdict
     ensures { λ r. ⌜ r ≡ repairVerdict width height «full_scale» (now (mask .entry)) (now (frame .entry)) «out_frame» «out_mask» ⌝ }
 {
-    let lent_frame = window::length(width, height, out_frame);
-    let lent_mask = window::length(width, height, out_mask);
+    let lent_frame = refusals::length(width, height, out_frame);
+    let lent_mask = refusals::length(width, height, out_mask);
     let lengths = verdict::then(lent_frame, lent_mask);
-    window::judge_frame(
+    refusals::judge_frame(
         width,
         height,
         full_scale,

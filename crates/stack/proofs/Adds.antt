@@ -14,10 +14,10 @@ use Rattle.verdict.specs.declared.Verdict.the-variants as verdict
 use Rattle.verdict.proofs.Verdicts.{Test, Tabled, test, testFirst, tabled, tabled-then, then-same, then-clear, unless}
 use Rattle.window.specs.Shape.{badSides, badScale, sitesOf}
 use Rattle.window.specs.View.{badCode, above, seen}
-use Rattle.window.specs.Judge.{otherThan, frameVerdict}
 use Rattle.window.proofs.Sides.{scale}
 use Rattle.window.proofs.Views.{seen-is, seen-out}
-use Rattle.window.proofs.Judges.{Framed, frame-clear, frame-tabled}
+use Rattle.refusals.specs.Judge.{otherThan, frameVerdict}
+use Rattle.refusals.proofs.Judges.{Framed, frame-clear, frame-tabled}
 use Rattle.stack.specs.Sums.{stackLengths, impossibleIn, squared, added}
 use Rattle.stack.specs.Walk.{readable}
 use Rattle.stack.specs.Add.{addVerdict, addAnswer, addPaperOf, addPaper, addSums, addSquares}

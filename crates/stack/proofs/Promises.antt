@@ -22,9 +22,9 @@ use Rattle.verdict.proofs.Verdicts.{Tabled, Refuses, refuses, then-same, then-c
 use Rattle.verdict.proofs.Answers.{paper-told}
 use Rattle.window.specs.Shape.{badScale, sitesOf}
 use Rattle.window.specs.View.{surveyed, seen, one}
-use Rattle.window.specs.Judge.{frameVerdict}
 use Rattle.window.proofs.Sides.{scale, sites-few}
 use Rattle.window.proofs.Views.{Agree, same-view, seen-is, seen-in, seen-out}
+use Rattle.refusals.specs.Judge.{frameVerdict}
 use Rattle.stack.specs.Sums.{impossibleIn, squared, added, spread}
 use Rattle.stack.specs.Add.{addVerdict, addAnswer, addPaperOf, addPaper, addSums, addSquares}
 use Rattle.stack.specs.Variance.{sumsVerdict, varianceVerdict, noVariance, varianceAnswer, variancePaperOf, variancePaper}

@@ -22,7 +22,7 @@ use Rattle.window.specs.Shape.{badCount, sitesOf}
 use Rattle.window.specs.View.{surveyed, seen, one}
 use Rattle.window.proofs.Sides.{scale, sites-few}
 use Rattle.window.proofs.Views.{seen-is, seen-in, seen-out}
-use Rattle.window.proofs.Judges.{Masked, clear-mask, clear-frame}
+use Rattle.refusals.proofs.Judges.{Masked, clear-mask, clear-frame}
 use Rattle.stack.specs.Sums.{stackLengths, impossibleAt, impossibleIn, squared, added, spread}
 use Rattle.stack.specs.Add.{addVerdict, addSums, addSquares}
 use Rattle.stack.specs.Variance.{tooFew, sumsVerdict, varianceVerdict}

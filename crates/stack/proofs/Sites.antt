@@ -15,10 +15,10 @@ use Rattle.verdict.specs.declared.Verdict.the-variants.{Clear}
 use Rattle.verdict.proofs.Verdicts.{Tabled, test, tabled, then-clear, clear-then}
 use Rattle.window.specs.Shape.{sitesOf}
 use Rattle.window.specs.View.{seen}
-use Rattle.window.specs.Judge.{otherThan}
 use Rattle.window.proofs.Sides.{scale}
-use Rattle.window.proofs.Chains.{length-clear, clear-length}
-use Rattle.window.proofs.Judges.{Masked}
+use Rattle.refusals.specs.Judge.{otherThan}
+use Rattle.refusals.proofs.Chains.{length-clear, clear-length}
+use Rattle.refusals.proofs.Judges.{Masked}
 use Rattle.stack.specs.Sums.{stackLengths, impossible, impossibleAt, impossibleIn}
 use Rattle.stack.specs.Walk.{readable}
 

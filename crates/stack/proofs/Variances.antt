@@ -19,13 +19,13 @@ use Rattle.verdict.specs.declared.Refusal.{Refusal}
 use Rattle.verdict.specs.declared.Verdict.the-variants as verdict
 use Rattle.verdict.proofs.Verdicts.{Test, Tabled, test, testFirst, tabled, tabled-then, then-same, then-clear, unless}
 use Rattle.verdict.proofs.Answers.{was-accepted}
-use Rattle.window.specs.Shape.{badCount, badSides, badScale, sitesOf}
+use Rattle.window.specs.Shape.{badCount, badSides, badScale, sitesOf, walked}
 use Rattle.window.specs.View.{badCode, seen, one}
-use Rattle.window.specs.Judge.{otherThan, maskVerdict, walked}
 use Rattle.window.proofs.Sides.{frame-count, scale, sites-few}
 use Rattle.window.proofs.Walks.{walked-whole}
 use Rattle.window.proofs.Views.{surveyed-most}
-use Rattle.window.proofs.Judges.{mask-clear, mask-tabled}
+use Rattle.refusals.specs.Judge.{otherThan, maskVerdict}
+use Rattle.refusals.proofs.Judges.{mask-clear, mask-tabled}
 use Rattle.stack.specs.Sums.{stackLengths, impossibleIn, spread}
 use Rattle.stack.specs.Walk.{readable}
 use Rattle.stack.specs.Variance.{tooFew, sumsVerdict, varianceVerdict, varianceAnswer, variancePaperOf, variancePaper}

@@ -8,7 +8,7 @@ use Rattle.verdict.specs.Answer.{answerOf, Paper, acceptedPaper, refusedPaper, 
 use Rattle.verdict.specs.declared.Verdict.{Verdict}
 use Rattle.window.specs.Shape.{sitesOf}
 use Rattle.window.specs.View.{seen}
-use Rattle.window.specs.Judge.{frameVerdict}
+use Rattle.refusals.specs.Judge.{frameVerdict}
 use Rattle.stack.specs.Sums.{stackLengths, impossibleIn, squared, added}
 use Rattle.stack.specs.declared.Added.{Added}
 use Rattle.stack.specs.declared.Added.the-variants.{Frames, Refused}

@@ -9,7 +9,7 @@ use Rattle.laws.specs.Sum.{sumTo}
 use Rattle.laws.specs.Table.{tabulate}
 use Rattle.verdict.specs.Verdict.{_⨟_}
 use Rattle.verdict.specs.declared.Verdict.{Verdict}
-use Rattle.window.specs.Judge.{lengthOf}
+use Rattle.refusals.specs.Judge.{lengthOf}
 
 -- 4 of a stack's two buffers, by their lengths
 abbrev pub stackLengths : ℕ → ℕ → ℕ → ℕ → Verdict

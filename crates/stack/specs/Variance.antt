@@ -12,7 +12,7 @@ use Rattle.verdict.specs.Answer.{answerOf, Paper, acceptedPaper, refusedPaper, 
 use Rattle.verdict.specs.declared.Verdict.{Verdict}
 use Rattle.window.specs.Shape.{sitesOf, badCount}
 use Rattle.window.specs.View.{seen, one}
-use Rattle.window.specs.Judge.{maskVerdict}
+use Rattle.refusals.specs.Judge.{maskVerdict}
 use Rattle.stack.specs.Sums.{stackLengths, impossibleIn, spread}
 use Rattle.stack.specs.declared.Variance.{Variance}
 use Rattle.stack.specs.declared.Variance.the-variants.{Figures, Refused}

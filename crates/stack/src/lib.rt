@@ -5,7 +5,7 @@ ghost use Prim.Native.Nat.{ℕ, _+_, _*_, _^_, _≤_, _<_};
 ghost use lib.ListN.{length, getD};
 ghost use Rattle.laws.specs.Sum.{sumTo};
 ghost use Rattle.verdict.specs.Verdict.{refuseIf};
-ghost use Rattle.window.specs.Judge.{walked};
+ghost use Rattle.window.specs.Shape.{walked};
 ghost use Rattle.window.specs.View.{seenAt, seen, one};
 ghost use Rattle.stack.specs.Sums.{stackLengths, impossible, impossibleIn, squared, added, spread};
 ghost use Rattle.stack.specs.Walk.{readable};
@@ -92,8 +92,8 @@ fn stack_lengths(width: usize, height: usize, sums: usize, squares: usize) -> Ve
     ensures { λ r. ⌜ r ≡ stackLengths width height sums squares ⌝ }
 {
     verdict::then(
-        window::length(width, height, sums),
-        window::length(width, height, squares),
+        refusals::length(width, height, sums),
+        refusals::length(width, height, squares),
     )
 }
 
@@ -112,7 +112,7 @@ fn judge_add(
 {
     let count = verdict::refuse_if(3, 0, 100 < frames);
     let lengths = stack_lengths(width, height, sums.len(), squares.len());
-    let lent = window::judge_frame(width, height, full_scale, count, mask, frame, lengths);
+    let lent = refusals::judge_frame(width, height, full_scale, count, mask, frame, lengths);
     let impossible = possible(full_scale, frames, mask, sums, squares);
     let full = verdict::refuse_if(12, 0, frames == 100);
     verdict::then(lent, verdict::then(impossible, full))
@@ -206,7 +206,7 @@ fn judge_variance(
 {
     let bad = verdict::refuse_if(3, 0, window::bad_count(frames));
     let lengths = stack_lengths(width, height, sums.len(), squares.len());
-    let lent = window::judge_mask(width, height, full_scale, bad, mask, lengths);
+    let lent = refusals::judge_mask(width, height, full_scale, bad, mask, lengths);
     let few = verdict::refuse_if(7, 0, too_few(count, frames));
     let impossible = possible(full_scale, frames, mask, sums, squares);
     verdict::then(lent, verdict::then(few, impossible))

@@ -15,7 +15,7 @@ use Rattle.verdict.specs.Verdict.{refusal, _⨟_, refuseIf}
 use Rattle.verdict.specs.declared.Verdict.the-variants.{Clear, Refused}
 use Rattle.verdict.proofs.Verdicts.{here, later, passed-head, passed-tail, then-same, then-clear, unless}
 use Rattle.window.specs.Shape.{badSides, sitesOf}
-use Rattle.window.specs.Judge.{otherThan}
+use Rattle.refusals.specs.Judge.{otherThan}
 use Rattle.stream.specs.Fields.{Field, wordAt, past, fieldAt, fieldsAt, pastAll, extraAt}
 use Rattle.stream.specs.Stream.{sideFields, bodyFields, wideSides, faultsOf, widthOf, heightOf, sitesIn, streamVerdict}
 use Rattle.stream.proofs.Streams.{Faultless, faultless, narrow, field-inside, end-is}

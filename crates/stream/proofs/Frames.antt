@@ -10,7 +10,7 @@ use Rattle.laws.proofs.Tables.{length-tabulate}
 use Rattle.verdict.specs.declared.Verdict.the-variants.{Clear}
 use Rattle.verdict.proofs.Verdicts.{end, past}
 use Rattle.window.specs.Shape.{badSides, sitesOf}
-use Rattle.window.proofs.Chains.{right-length}
+use Rattle.refusals.proofs.Chains.{right-length}
 use Rattle.raw.specs.Packed.{sample10, length10}
 use Rattle.raw.specs.Unpack.{unpackVerdict, unpackBuffer}
 use Rattle.raw.proofs.Unpacks.{table, accepted-is}

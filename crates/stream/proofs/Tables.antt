@@ -14,9 +14,9 @@ use Rattle.verdict.specs.declared.Verdict.the-variants.{Clear}
 use Rattle.verdict.proofs.Verdicts.{Test, Tabled, test, testFirst, inTurn, tabled, tabled-none, tabled-then, skipped, then-assoc, then-same, then-clear, then-end, clear-first, unless, clear-unless}
 use Rattle.window.specs.Shape.{badSides, badScale, sitesOf}
 use Rattle.window.specs.View.{badCode, above, seen, one}
-use Rattle.window.specs.Judge.{shapeOf, otherThan, codesOf, samplesOf, maskVerdict, frameVerdict}
-use Rattle.window.proofs.Chains.{clear-shape, right-length, clear-length, clear-codes, clear-samples}
-use Rattle.window.proofs.Judges.{Framed}
+use Rattle.refusals.specs.Judge.{shapeOf, otherThan, codesOf, samplesOf, maskVerdict, frameVerdict}
+use Rattle.refusals.proofs.Chains.{clear-shape, right-length, clear-length, clear-codes, clear-samples}
+use Rattle.refusals.proofs.Judges.{Framed}
 use Rattle.pair.specs.Pair.{spreadOf, pairSpread, framesVerdict, pairVerdict}
 use Rattle.pair.proofs.Frames.{readable}
 use Rattle.pair.proofs.Promises.{spare}

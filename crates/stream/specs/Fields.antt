@@ -6,7 +6,7 @@ use lib.ListN.{length, getD, take, drop}
 use Rattle.verdict.specs.Verdict.{_⨟_, refuseIf}
 use Rattle.verdict.specs.declared.Verdict.{Verdict}
 use Rattle.verdict.specs.declared.Verdict.the-variants.{Clear}
-use Rattle.window.specs.Judge.{otherThan}
+use Rattle.refusals.specs.Judge.{otherThan}
 
 -- two bytes, the high one first
 unfoldable pub wordAt : List ℕ → ℕ → ℕ

@@ -1,18 +1,12 @@
 -- What a buffer's length lets be walked: the whole window, or nothing.
 use Prim.Native.Nat.{ℕ, _*_}
-use mathlib.Core.Bool.{Bool, false}
 use mathlib.Core.Logic.{⊎-elim}
 use mathlib.Core.Path.{_≡_, _∙_}
 use native.Mathlib.Omega.{arith}
-use lib.Dec.{eqb, ltb}
+use lib.Dec.{eqb}
 use borrow.Author.Tests.{eq-eqb, ne-eqb, eqb-true, eqb-false}
-use Rattle.laws.specs.First.{firstTo, someTo}
 use Rattle.laws.proofs.Cases.{true-or-false}
-use Rattle.laws.proofs.Firsts.{first-none}
-use Rattle.verdict.specs.Verdict.{refuseIf, refuseFirst}
-use Rattle.verdict.specs.declared.Verdict.the-variants.{Clear}
-use Rattle.window.specs.Shape.{sitesOf}
-use Rattle.window.specs.Judge.{walked}
+use Rattle.window.specs.Shape.{sitesOf, walked}
 use Rattle.window.proofs.Sides.{Sides, some-sites}
 
 -- h rows of w, which a buffer of this length holds
@@ -40,18 +34,3 @@ module _ (w h long : ℕ) where
       record { legal = legal; holds = e ∙ legal .sites; sites = n ∙ legal .sites })
       (λ t. absurd (some (walked-none (eqb-false long (sitesOf w h) t))))
       (true-or-false (eqb long (sitesOf w h)))
-
--- nothing is refused of no site
-pub none-walked : (k n : ℕ) (test : ℕ → Bool) → n ≡ 0 → Clear ≡ refuseFirst k n test
-unfolding refuseFirst refuseIf
-none-walked k n test e = rw (e, first-none)
-
--- nor where the test holds at none
-pub none-found : (k n m : ℕ) (test : ℕ → Bool) → m ≡ n → someTo n test ≡ false → Clear ≡ refuseFirst k m test
-unfolding refuseFirst refuseIf
-none-found k n m test p e = rw (p, e)
-
--- what a search over the n sites found is given, however n was come by
-pub found : (k n m i at : ℕ) (test : ℕ → Bool) → i ≡ n → m ≡ n → at ≡ firstTo n test → refuseIf k at (ltb at i) ≡ refuseFirst k m test
-unfolding refuseFirst
-found k n m i at test p q f = rw (f, p, q)

@@ -2,7 +2,7 @@
 use mathlib.Core.Path.{refl}
 use borrow.Author.Needs.{needs}
 use Rattle.verdict.proofs.Verdicts.{then-of}
-use Rattle.window.proofs.Judges.{frame-of}
+use Rattle.refusals.proofs.Judges.{frame-of}
 use Rattle.colour.specs.Colour.{lentVerdict}
 use Rattle.colour.proofs.judge.Statement.{statement}
 use Rattle.colour.proofs.judge.Tie as tie

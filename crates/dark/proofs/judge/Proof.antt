@@ -2,7 +2,7 @@
 use mathlib.Core.Path.{refl, _∙_}
 use borrow.Author.Needs.{needs}
 use Rattle.verdict.proofs.Verdicts.{then-of}
-use Rattle.window.proofs.Judges.{frame-of}
+use Rattle.refusals.proofs.Judges.{frame-of}
 use Rattle.dark.proofs.Levels.{judged}
 use Rattle.dark.proofs.judge.Statement.{statement}
 use Rattle.dark.proofs.judge.Tie as tie

@@ -5,7 +5,7 @@ use lib.Dec.{ltb}
 use borrow.Author.Needs.{needs}
 use Rattle.verdict.specs.Verdict.{refuseIf}
 use Rattle.verdict.proofs.Verdicts.{then-of}
-use Rattle.window.proofs.Judges.{mask-of}
+use Rattle.refusals.proofs.Judges.{mask-of}
 use Rattle.pattern.proofs.Judges.{judged}
 use Rattle.pattern.proofs.judge.Statement.{statement}
 use Rattle.pattern.proofs.judge.Tie as tie

@@ -1,6 +1,6 @@
 -- `judge_find` is right because it hands its own tests, of the threshold and of the mask that is written, to the judge that calls share.
 use borrow.Author.Needs.{needs}
-use Rattle.window.proofs.Judges.{frame-of}
+use Rattle.refusals.proofs.Judges.{frame-of}
 use Rattle.sites.specs.Find.{findVerdict}
 use Rattle.sites.proofs.judge_find.Statement.{statement}
 use Rattle.sites.proofs.judge_find.Tie as tie

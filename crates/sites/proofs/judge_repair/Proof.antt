@@ -2,7 +2,7 @@
 use mathlib.Core.Path.{refl}
 use borrow.Author.Needs.{needs}
 use Rattle.verdict.proofs.Verdicts.{then-of}
-use Rattle.window.proofs.Judges.{frame-of}
+use Rattle.refusals.proofs.Judges.{frame-of}
 use Rattle.sites.specs.Repair.{repairVerdict}
 use Rattle.sites.proofs.judge_repair.Statement.{statement}
 use Rattle.sites.proofs.judge_repair.Tie as tie

@@ -2,7 +2,7 @@
 use mathlib.Core.Path.{_∙_}
 use borrow.Author.Needs.{needs}
 use Rattle.verdict.proofs.Verdicts.{then-of}
-use Rattle.window.proofs.Judges.{frame-of}
+use Rattle.refusals.proofs.Judges.{frame-of}
 use Rattle.stack.proofs.Adds.{judged}
 use Rattle.stack.proofs.judge_add.Statement.{statement}
 use Rattle.stack.proofs.judge_add.Tie as tie

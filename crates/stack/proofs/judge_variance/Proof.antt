@@ -3,7 +3,7 @@ use mathlib.Core.Path.{ap, _∙_}
 use borrow.Author.Needs.{needs}
 use Rattle.verdict.specs.Verdict.{refuseIf}
 use Rattle.verdict.proofs.Verdicts.{then-of}
-use Rattle.window.proofs.Judges.{mask-of}
+use Rattle.refusals.proofs.Judges.{mask-of}
 use Rattle.stack.proofs.Variances.{judged}
 use Rattle.stack.proofs.judge_variance.Statement.{statement}
 use Rattle.stack.proofs.judge_variance.Tie as tie

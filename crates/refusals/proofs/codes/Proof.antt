@@ -3,9 +3,10 @@ use mathlib.Core.Path.{sym, _∙_}
 use lib.ListN.{length}
 use borrow.Author.Needs.{needs}
 use borrow.Author.Tests.{not-true}
-use Rattle.window.proofs.Walks.{Whole, found, walked-some, none-walked, none-found}
-use Rattle.window.proofs.codes.Statement.{statement}
-use Rattle.window.proofs.codes.Tie as tie
+use Rattle.window.proofs.Walks.{Whole, walked-some}
+use Rattle.refusals.proofs.Searches.{none-walked, none-found, found}
+use Rattle.refusals.proofs.codes.Statement.{statement}
+use Rattle.refusals.proofs.codes.Tie as tie
 
 masked : (c : tie.Else1)
     → Whole (c .before .before .before .args .width) (c .before .before .before .args .height) (length (c .before .before .before .args .mask .now))

@@ -5,8 +5,8 @@ use mathlib.Core.Path.{_≡_, sym, ap, _∙_}
 use native.Mathlib.Omega.{arith}
 use borrow.Author.Needs.{needs}
 use borrow.Author.Tests.{not-true}
-use Rattle.window.proofs.none_over.Statement.{statement}
-use Rattle.window.proofs.none_over.Tie as tie
+use Rattle.refusals.proofs.none_over.Statement.{statement}
+use Rattle.refusals.proofs.none_over.Tie as tie
 
 returns : tie.Need-returns
 returns c = λ e. let z : _≡_ {A = ℕ} 0 1 = ap (λ (b : Bool). cond b 1 0) e in absurd (omega arith)

@@ -5,11 +5,11 @@ use native.Mathlib.Omega.{arith}
 use lib.Dec.{ltb}
 use borrow.Author.Needs.{needs}
 use borrow.Author.Tests.{lt-ltb, le-ltb}
 use Rattle.window.specs.View.{above, seen}
-use Rattle.window.proofs.Searches.{AtRow, AtSite, search-begins, row-begins, site-in, site-passed, row-passed, search-ends, search-stops}
 use Rattle.window.proofs.Views.{seen-is}
-use Rattle.window.proofs.first_over.Statement.{statement}
-use Rattle.window.proofs.first_over.Tie as tie
+use Rattle.refusals.proofs.Searches.{AtRow, AtSite, search-begins, row-begins, site-in, site-passed, row-passed, search-ends, search-stops}
+use Rattle.refusals.proofs.first_over.Statement.{statement}
+use Rattle.refusals.proofs.first_over.Tie as tie
 
 abbrev Inv-loop : tie.InvT-loop
 Inv-loop width height full-scale mask frame site₀ row column₀ site column = AtSite (above full-scale (seen mask frame)) width row column site

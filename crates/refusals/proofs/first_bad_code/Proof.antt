@@ -3,10 +3,10 @@ use Prim.Native.Nat.{_*_, _-_, _<_}
 use native.Mathlib.Omega.{arith}
 use borrow.Author.Needs.{needs}
 use borrow.Author.Tests.{lt-ltb, le-ltb}
 use Rattle.window.specs.View.{badCode}
-use Rattle.window.proofs.Searches.{AtRow, AtSite, search-begins, row-begins, site-in, site-passed, row-passed, search-ends, search-stops}
-use Rattle.window.proofs.first_bad_code.Statement.{statement}
-use Rattle.window.proofs.first_bad_code.Tie as tie
+use Rattle.refusals.proofs.Searches.{AtRow, AtSite, search-begins, row-begins, site-in, site-passed, row-passed, search-ends, search-stops}
+use Rattle.refusals.proofs.first_bad_code.Statement.{statement}
+use Rattle.refusals.proofs.first_bad_code.Tie as tie
 
 abbrev Inv-loop : tie.InvT-loop
 Inv-loop width height mask at₀ y x₀ at x = AtSite (badCode mask) width y x at

@@ -5,8 +5,11 @@ use mathlib.Core.Path.{_≡_, sym, ap, _∙_}
 use native.Mathlib.Nat.{add-mul, one-mul, zero-mul, le-antisymm}
 use native.Mathlib.Omega.{arith}
 use lib.Arith.{digits-lt}
-use Rattle.laws.specs.First.{firstTo}
+use lib.Dec.{ltb}
+use Rattle.laws.specs.First.{firstTo, someTo}
 use Rattle.laws.proofs.Firsts.{first-none, first-past, first-here}
+use Rattle.verdict.specs.Verdict.{refuseIf, refuseFirst}
+use Rattle.verdict.specs.declared.Verdict.the-variants.{Clear}
 
 -- row y begins, and nothing was found before it
 pub record AtRow (test : ℕ → Bool) (w h y at : ℕ) : Type 0 where
@@ -44,3 +47,18 @@ module _ {test : ℕ → Bool} {w y x at : ℕ} (s : AtSite test w y x at) where
 
   pub search-stops : {h : ℕ} → y < h → x < w → test at ≡ true → at ≡ firstTo (h * w) test
   search-stops {h} hy hx t = sym (first-here test (h * w) at (site-in hy hx) (s .none) t)
+
+-- nothing is refused of no site
+pub none-walked : (k n : ℕ) (test : ℕ → Bool) → n ≡ 0 → Clear ≡ refuseFirst k n test
+unfolding refuseFirst refuseIf
+none-walked k n test e = rw (e, first-none)
+
+-- nor where the test holds at none
+pub none-found : (k n m : ℕ) (test : ℕ → Bool) → m ≡ n → someTo n test ≡ false → Clear ≡ refuseFirst k m test
+unfolding refuseFirst refuseIf
+none-found k n m test p e = rw (p, e)
+
+-- what a search over the n sites found is given, however n was come by
+pub found : (k n m i at : ℕ) (test : ℕ → Bool) → i ≡ n → m ≡ n → at ≡ firstTo n test → refuseIf k at (ltb at i) ≡ refuseFirst k m test
+unfolding refuseFirst
+found k n m i at test p q f = rw (f, p, q)

@@ -2,9 +2,9 @@
 use mathlib.Core.Path.{refl, _∙_}
 use borrow.Author.Needs.{needs}
 use Rattle.verdict.proofs.Verdicts.{then-of}
-use Rattle.window.proofs.Judges.{mask-of, frame-judged}
-use Rattle.window.proofs.judge_frame.Statement.{statement}
-use Rattle.window.proofs.judge_frame.Tie as tie
+use Rattle.refusals.proofs.Judges.{mask-of, frame-judged}
+use Rattle.refusals.proofs.judge_frame.Statement.{statement}
+use Rattle.refusals.proofs.judge_frame.Tie as tie
 
 length-requires : tie.Need-length-requires
 length-requires c κs = search needs

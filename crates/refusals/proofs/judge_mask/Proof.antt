@@ -2,9 +2,9 @@
 use mathlib.Core.Path.{refl, _∙_}
 use borrow.Author.Needs.{needs}
 use Rattle.verdict.proofs.Verdicts.{then-of}
-use Rattle.window.proofs.Judges.{mask-judged}
-use Rattle.window.proofs.judge_mask.Statement.{statement}
-use Rattle.window.proofs.judge_mask.Tie as tie
+use Rattle.refusals.proofs.Judges.{mask-judged}
+use Rattle.refusals.proofs.judge_mask.Statement.{statement}
+use Rattle.refusals.proofs.judge_mask.Tie as tie
 
 shape-requires : tie.Need-shape-requires
 shape-requires c κs = search needs

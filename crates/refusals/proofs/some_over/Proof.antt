@@ -8,10 +8,10 @@ use lib.ListN.{length}
 use borrow.Author.Needs.{needs}
 use Rattle.laws.specs.First.{someTo}
 use Rattle.laws.proofs.Firsts.{some-none, some-more}
 use Rattle.window.specs.View.{above, seen}
 use Rattle.window.proofs.Views.{seen-is}
-use Rattle.window.proofs.some_over.Statement.{statement}
-use Rattle.window.proofs.some_over.Tie as tie
+use Rattle.refusals.proofs.some_over.Statement.{statement}
+use Rattle.refusals.proofs.some_over.Tie as tie
 
 abbrev Inv-loop : tie.InvT-loop
 Inv-loop full-scale mask frame found₀ i₀ i-end found i =

@@ -3,9 +3,10 @@ use mathlib.Core.Path.{sym, _∙_}
 use native.Mathlib.Omega.{arith}
 use lib.ListN.{length}
 use borrow.Author.Needs.{needs}
-use Rattle.window.proofs.Walks.{Whole, walked-some, none-walked, none-found, found}
-use Rattle.window.proofs.samples.Statement.{statement}
-use Rattle.window.proofs.samples.Tie as tie
+use Rattle.window.proofs.Walks.{Whole, walked-some}
+use Rattle.refusals.proofs.Searches.{none-walked, none-found, found}
+use Rattle.refusals.proofs.samples.Statement.{statement}
+use Rattle.refusals.proofs.samples.Tie as tie
 
 abbrev Begun : tie.Else1 → tie.Start
 Begun c = c .before .before .before .before

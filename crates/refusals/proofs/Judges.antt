@@ -8,10 +8,10 @@ use Rattle.verdict.specs.Verdict.{_⨟_, refuseFirst}
 use Rattle.verdict.specs.declared.Verdict.{Verdict}
 use Rattle.verdict.specs.declared.Verdict.the-variants.{Clear}
 use Rattle.verdict.proofs.Verdicts.{Test, Tabled, test, testFirst, tabled, tabled-then, then-same, then-clear, clear-then}
-use Rattle.window.specs.Shape.{badSides, badScale, sitesOf}
+use Rattle.window.specs.Shape.{badSides, badScale, sitesOf, walked}
 use Rattle.window.specs.View.{badCode, above, seen}
-use Rattle.window.specs.Judge.{shapeOf, otherThan, lengthOf, codesOf, samplesOf, maskVerdict, frameVerdict, walked}
-use Rattle.window.proofs.Chains.{shape-clear, clear-shape, shape-tabled, length-clear, clear-length, codes-clear, clear-codes, samples-clear, clear-samples, measured, codes-whole, samples-whole}
+use Rattle.refusals.specs.Judge.{shapeOf, otherThan, lengthOf, codesOf, samplesOf, maskVerdict, frameVerdict}
+use Rattle.refusals.proofs.Chains.{shape-clear, clear-shape, shape-tabled, length-clear, clear-length, codes-clear, clear-codes, samples-clear, clear-samples, measured, codes-whole, samples-whole}
 
 -- a mask in a window that 1 to 5 do not refuse
 pub record Masked (w h full : ℕ) (mask : List ℕ) : Type 0 where

@@ -1,8 +1,8 @@
 -- `shape` is right because it asks the definition's two tests in its order.
 use borrow.Author.Needs.{needs}
-use Rattle.window.specs.Judge.{shapeOf}
-use Rattle.window.proofs.shape.Statement.{statement}
-use Rattle.window.proofs.shape.Tie as tie
+use Rattle.refusals.specs.Judge.{shapeOf}
+use Rattle.refusals.proofs.shape.Statement.{statement}
+use Rattle.refusals.proofs.shape.Tie as tie
 
 bad-sides-requires : tie.Need-bad-sides-requires
 bad-sides-requires c κs = search needs

@@ -3,9 +3,9 @@ use mathlib.Core.Path.{ap, _∙_}
 use Prim.Native.Nat.{ℕ}
 use borrow.Author.Needs.{needs}
 use Rattle.verdict.specs.Verdict.{refuseIf}
-use Rattle.window.specs.Judge.{otherThan}
-use Rattle.window.proofs.length.Statement.{statement}
-use Rattle.window.proofs.length.Tie as tie
+use Rattle.refusals.specs.Judge.{otherThan}
+use Rattle.refusals.proofs.length.Statement.{statement}
+use Rattle.refusals.proofs.length.Tie as tie
 
 sites-requires : tie.Need-sites-requires
 sites-requires c κs = search needs

@@ -1,13 +1,13 @@
 -- Document 01, "Refusal numbers": the tests that calls share.
 use Prim.Native.Nat.{ℕ}
-use mathlib.Core.Bool.{Bool, cond, not}
+use mathlib.Core.Bool.{Bool, not}
 use mathlib.Core.List.{List}
 use lib.Dec.{eqb}
 use lib.ListN.{length}
 use Rattle.verdict.specs.Verdict.{_⨟_, refuseIf, refuseFirst}
 use Rattle.verdict.specs.declared.Verdict.{Verdict}
 use Rattle.window.specs.Shape.{badSides, badScale, sitesOf}
 use Rattle.window.specs.View.{badCode, above, seen}
 
 -- 1: a side is odd or not in 2..128; 2: full scale not in 1..4095
 unfoldable pub shapeOf : ℕ → ℕ → ℕ → Verdict
@@ -45,7 +45,3 @@ unfoldable pub frameVerdict : ℕ → ℕ → ℕ → Verdict → List ℕ → L
 frameVerdict w h full parameters mask frame lengths =
     maskVerdict w h full parameters mask (lengthOf w h (length frame) ⨟ lengths)
     ⨟ samplesOf (sitesOf w h) full (seen mask frame)
-
--- the sites of a window that a buffer of this length lets be walked: all, where it has just as many, or none
-unfoldable pub walked : ℕ → ℕ → ℕ → ℕ
-walked w h long = cond (eqb long (sitesOf w h)) (sitesOf w h) 0
