@@ -65,7 +65,7 @@ fn first_over(width: usize, height: usize, full_scale: u64, mask: &[u8], frame: 
     site
 }
 
-// Whether some surveyed sample is above a full scale of 16 bits, likewise.
+// Whether some surveyed sample is above a full scale of 16 bits: a walk with no way out, as `some_code_above` of window.
 fn some_over(full_scale: u16, mask: &[u8], frame: &[u16]) -> bool
     requires { ⌜ length (now frame) ≡ length (now mask) ⌝ }
     ensures { λ r. ⌜ r ≡ someTo (length (now (mask .entry))) (above «full_scale» (seen (now (mask .entry)) (now (frame .entry)))) ⌝ }
