@@ -12,13 +12,13 @@ use Rattle.laws.proofs.Cases.{neither, times-le}
 use Rattle.verdict.specs.Verdict.{_⨟_}
 use Rattle.verdict.specs.declared.Refusal.{Refusal}
 use Rattle.verdict.specs.declared.Verdict.the-variants as verdict
-use Rattle.verdict.proofs.Verdicts.{Test, Tabled, test, testFirst, tabled, tabled-none, tabled-then, then-clear, unless}
+use Rattle.verdict.proofs.Verdicts.{Test, Tabled, test, tabled, tabled-none, tabled-then, then-clear, unless}
 use Rattle.verdict.proofs.Answers.{was-accepted}
 use Rattle.window.specs.Shape.{badSides, badScale, sitesOf}
-use Rattle.window.specs.View.{badCode, above, seen, one}
+use Rattle.window.specs.View.{seen, one}
 use Rattle.window.proofs.Sides.{Sides, sides, scale}
 use Rattle.refusals.specs.Judge.{otherThan}
-use Rattle.refusals.proofs.Judges.{frame-clear, frame-tabled}
+use Rattle.refusals.proofs.Judges.{codesTest, samplesTest, Framed, frame-clear, frame-tabled}
 use Rattle.plane.specs.Plane.{boxSums}
 use Rattle.plane.specs.declared.Sums.{Sums}
 use Rattle.colour.specs.Bayer.{mosaicOf, centresOf}
@@ -71,8 +71,8 @@ module _ (w h full black order : ℕ) (mask frame : List ℕ) where
       ∷ test 3 0 (ltb 3 order)
       ∷ test 4 0 (otherThan (sitesOf w h) (length mask))
       ∷ test 4 0 (otherThan (sitesOf w h) (length frame))
-      ∷ testFirst 5 (sitesOf w h) (badCode mask)
-      ∷ testFirst 6 (sitesOf w h) (above full (seen mask frame))
+      ∷ codesTest (sitesOf w h) mask
+      ∷ samplesTest (sitesOf w h) full (seen mask frame)
       ∷ test 9 0 (tooSmall w h)
       ∷ test 7 0 (someEmpty (centresSeen w h order mask frame))
       ∷ test 10 0 (notAbove (aboveBlack black (centresSeen w h order mask frame .gr)))
@@ -86,12 +86,10 @@ module _ (w h full black order : ℕ) (mask frame : List ℕ) where
 
   -- what is lent where 1 to 6 refuse nothing
   pub record Lent : Type 0 where
+    pub lent : Framed w h full mask frame
     pub legal : Sides w h
-    pub masked : length mask ≡ sitesOf w h
-    pub framed : length frame ≡ sitesOf w h
     pub scale : full ≤ 4095
     pub dark : black ≤ full
-    pub low : (i : ℕ) → i < sitesOf w h → seen mask frame i ≤ full
 
   pub lent : lentVerdict w h full black order mask frame ≡ verdict.Clear → Lent
   unfolding lentVerdict
@@ -99,12 +97,10 @@ module _ (w h full black order : ℕ) (mask frame : List ℕ) where
       let passed = frame-clear w h full mask frame e in
       let of = passed .2 in
       record {
+        lent = of;
         legal = sides w h (of .of .legal);
-        masked = of .of .masked;
-        framed = of .framed;
         scale = scale full (of .of .scaled) .high;
         dark = ltb-false full black (unless 3 0 (ltb full black) (then-clear _ _ (passed .0) .0));
-        low = of .range;
       }
 
   -- what an accepted call has
@@ -129,7 +125,7 @@ module _ (w h full black order : ℕ) (mask frame : List ℕ) where
       let wide = neither (ltb (w / 2) 32) (ltb (h / 2) 24) (unless 9 0 (tooSmall w h) (large .0)) in
       let seen-some = filled shown (unless 7 0 (someEmpty shown) (some .0)) in
       let lit : (plane : ℕ) → 0 < centreSums w h (seen mask frame) (one mask) plane .count → Lit full (centreSums w h (seen mask frame) (one mask) plane) =
-      λ plane more. record { some = more; few = few w h mask frame plane; low = low w h mask frame plane full (λ i j. l .low i (omega (arith, l .legal .sites))) } in
+      λ plane more. record { some = more; few = few w h mask frame plane; low = low w h mask frame plane full (λ i j. l .lent .range i (omega (arith, l .legal .sites))) } in
       record {
         of = l;
         wide = ltb-false (w / 2) 32 (wide .0);
@@ -145,7 +141,7 @@ module _ (w h full black order : ℕ) (mask frame : List ℕ) where
   module _ (clear : lentVerdict w h full black order mask frame ≡ verdict.Clear) (shown : Centres)
       (e : shown ≡ centresOf order (λ (plane : ℕ). boxSums w h plane (centreOf w h) mask frame)) where
     pub whole : shown ≡ centresSeen w h order mask frame
-    whole = let l = lent clear in e ∙ shown-whole w h order mask frame (l .legal) (l .masked) (l .framed)
+    whole = let l = lent clear in e ∙ shown-whole w h order mask frame (l .legal) (l .lent .of .masked) (l .lent .framed)
 
     pub rest : centresVerdict w h black shown ≡ colourVerdict w h full black order mask frame
     unfolding colourVerdict _⨟_

@@ -65,12 +65,14 @@ pub record Figures : Type 0 where
 abbrev pub figures : Ratio → Ratio → Ratio → Figures
 figures r b gb = record { r = r; b = b; gb = gb }
 
+-- every number 0: what stands beside a refusal
 abbrev pub noRatio : Ratio
 noRatio = ratio (pos 0) 0
 
 abbrev pub noFigures : Figures
 noFigures = figures noRatio noRatio noRatio
 
+-- of what is seen in the four centres
 abbrev pub colourFigures : ℕ → Centres → Figures
 colourFigures black shown =
     figures (ratioOf black (shown .r) (shown .gr)) (ratioOf black (shown .b) (shown .gr)) (ratioOf black (shown .gb) (shown .gr))

@@ -11,14 +11,15 @@ use Rattle.laws.specs.Sum.{sumTo}
 use Rattle.verdict.specs.Verdict.{_⨟_, refuseIf}
 use Rattle.verdict.specs.declared.Refusal.{Refusal}
 use Rattle.verdict.specs.declared.Verdict.the-variants as verdict
-use Rattle.verdict.proofs.Verdicts.{Test, Tabled, test, testFirst, tabled, tabled-none, tabled-then, then-same, then-clear, unless}
+use Rattle.verdict.proofs.Verdicts.{Test, Tabled, test, tabled, tabled-none, tabled-then, then-same, then-clear, unless}
 use Rattle.verdict.proofs.Answers.{was-accepted}
 use Rattle.window.proofs.Walks.{walked-whole}
-use Rattle.window.specs.Shape.{badSides, badScale, sitesOf, walked}
-use Rattle.window.specs.View.{badCode, above, seen, one}
-use Rattle.window.proofs.Sides.{scale, sites-few}
+use Rattle.window.specs.Shape.{badSides, badScale, sitesOf}
+use Rattle.window.specs.Walk.{walked}
+use Rattle.window.specs.View.{seen, one}
+use Rattle.window.proofs.Sides.{scale}
 use Rattle.refusals.specs.Judge.{otherThan, frameVerdict}
-use Rattle.refusals.proofs.Judges.{frame-clear, frame-tabled}
+use Rattle.refusals.proofs.Judges.{codesTest, samplesTest, Framed, frame-clear, frame-tabled}
 use Rattle.dark.specs.Dark.{aboveBlack, darkVerdict, darkAnswer, paperOf, darkPaper}
 use Rattle.dark.specs.declared.Dark.the-variants.{Level, Refused}
 
@@ -31,8 +32,8 @@ module _ (w h full black : ℕ) (mask frame : List ℕ) where
       ∷ test 3 0 (ltb full black)
       ∷ test 4 0 (otherThan (sitesOf w h) (length mask))
       ∷ test 4 0 (otherThan (sitesOf w h) (length frame))
-      ∷ testFirst 5 (sitesOf w h) (badCode mask)
-      ∷ testFirst 6 (sitesOf w h) (above full (seen mask frame))
+      ∷ codesTest (sitesOf w h) mask
+      ∷ samplesTest (sitesOf w h) full (seen mask frame)
       ∷ test 7 0 (eqb (sumTo (sitesOf w h) (one mask)) 0)
       ∷ []
 
@@ -51,9 +52,7 @@ module _ (w h full black : ℕ) (mask frame : List ℕ) where
 
   -- what an accepted call's numbers are
   pub record Accepted : Type 0 where
-    pub masked : length mask ≡ sitesOf w h
-    pub few : length mask ≤ 16384
-    pub framed : length frame ≡ sitesOf w h
+    pub lent : Framed w h full mask frame
     pub dark : black ≤ 4095
     pub some : 0 < sumTo (sitesOf w h) (one mask)
 
@@ -65,13 +64,7 @@ module _ (w h full black : ℕ) (mask frame : List ℕ) where
       let b = ltb-false full black (unless 3 0 (ltb full black) (lent .0)) in
       let s = scale full (lent .2 .of .scaled) in
       let some = eqb-false (sumTo (sitesOf w h) (one mask)) 0 (unless 7 0 _ (both .1)) in
-      record {
-        masked = lent .2 .of .masked;
-        few = omega (arith, sites-few w h, lent .2 .of .masked);
-        framed = lent .2 .framed;
-        dark = omega arith;
-        some = omega arith;
-      }
+      record { lent = lent .2; dark = omega arith; some = omega arith }
 
   pub refused-is : (r : Refusal) → darkVerdict w h full black mask frame ≡ verdict.Refused r
       → (Refused r ≡ darkAnswer w h full black mask frame) × (paperOf (Refused r) ≡ darkPaper w h full black mask frame)
@@ -85,10 +78,10 @@ module _ (w h full black : ℕ) (mask frame : List ℕ) where
   accepted-is e a n p q = rw (e, p, q) (refl, refl)
 
   -- what a level that is answered says
-  pub level-is : (a : ℤ) (n : ℕ) → darkAnswer w h full black mask frame ≡ Level a n
+  pub answer-is : (a : ℤ) (n : ℕ) → darkAnswer w h full black mask frame ≡ Level a n
       → (darkVerdict w h full black mask frame ≡ verdict.Clear)
       × ((a ≡ aboveBlack (sitesOf w h) black (seen mask frame) (one mask)) × (n ≡ sumTo (sitesOf w h) (one mask)))
   unfolding darkAnswer
-  level-is a n e =
+  answer-is a n e =
       let was = was-accepted (darkVerdict w h full black mask frame) (λ r f. let z : _≡_ {A = ℕ} 0 1 = cc in absurd (omega arith)) e in
       (was .0, (cc, cc))

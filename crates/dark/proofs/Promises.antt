@@ -18,7 +18,7 @@ use Rattle.window.proofs.Views.{Agree, same-view}
 use Rattle.refusals.specs.Judge.{frameVerdict}
 use Rattle.dark.specs.Dark.{aboveBlack, darkVerdict, noFigures, darkAnswer, paperOf, darkPaper}
 use Rattle.dark.specs.declared.Dark.the-variants.{Level}
-use Rattle.dark.proofs.Levels.{tests, table, accepted, level-is}
+use Rattle.dark.proofs.Levels.{tests, table, accepted, answer-is}
 
 module _ (w h full black : ℕ) (mask frame : List ℕ) where
   -- only: no second answer meets the promise
@@ -50,13 +50,13 @@ module _ (w h full black : ℕ) (mask frame : List ℕ) where
     -- n counts the surveyed sites, of which there are some
     pub counts : (n ≡ sumTo (sitesOf w h) (one mask)) × (0 < n)
     counts =
-        let told = level-is w h full black mask frame a n answer in
+        let told = answer-is w h full black mask frame a n answer in
         (told .1 .1, rw (told .1 .1) (accepted w h full black mask frame (told .0) .some))
 
     level : a ≡ sumTo (sitesOf w h) (seen mask frame) ⊖ black * n
     unfolding aboveBlack
     level =
-        let told = level-is w h full black mask frame a n answer in
+        let told = answer-is w h full black mask frame a n answer in
         told .1 .0 ∙ ap (λ (m : ℕ). sumTo (sitesOf w h) (seen mask frame) ⊖ black * m) (sym (told .1 .1))
 
     -- the level is negative exactly where the mean of the surveyed samples is below the black level: their sum below black level × n

@@ -33,6 +33,7 @@ pub record Figures : Type 0 where
 abbrev pub figures : ℤ → ℕ → Figures
 figures numerator denominator = record { numerator = numerator; denominator = denominator }
 
+-- every number 0: what stands beside a refusal
 abbrev pub noFigures : Figures
 noFigures = figures (pos 0) 0
 

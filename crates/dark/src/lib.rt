@@ -5,7 +5,7 @@ ghost use Prim.Native.Nat.{_≤_};
 ghost use lib.IntN.{pos};
 ghost use lib.ListN.{length};
 ghost use Rattle.laws.specs.Sum.{sumTo};
-ghost use Rattle.window.specs.Shape.{walked};
+ghost use Rattle.window.specs.Walk.{walked};
 ghost use Rattle.window.specs.View.{surveyed, seen, one};
 ghost use Rattle.dark.specs.Dark.{aboveBlack, darkVerdict, darkAnswer, paperOf, darkPaper};
 use verdict::Refusal;

@@ -15,6 +15,7 @@ use Rattle.raw.proofs.Unpacks as raw-table
 use Rattle.raw.proofs.Promises as raw
 use Rattle.pair.specs.Pair.{pairVerdict}
 use Rattle.pair.specs.Answers as pair-answers
+use Rattle.pair.proofs.Measures as pair-table
 use Rattle.pair.proofs.Promises as pair
 use Rattle.dark.specs.Dark.{darkVerdict, darkPaper}
 use Rattle.dark.specs.Dark as levels
@@ -68,11 +69,11 @@ pub record Demand1 : Type 0 where
       (unpackBuffer w h bytes out ≡ out)
   pub pair-variance : (w h full : ℕ) (mask first second : List ℕ)
       → let paper = pair-answers.variancePaper w h full mask first second in
-      Refusing (pairVerdict w h full mask first second) (pair.tests w h full mask first second) paper
+      Refusing (pairVerdict w h full mask first second) (pair-table.tests w h full mask first second) paper
       (paper .figures ≡ pair-answers.noVariance)
   pub pair-noise : (w h full : ℕ) (mask first second : List ℕ)
       → let paper = pair-answers.noisePaper w h full mask first second in
-      Refusing (pairVerdict w h full mask first second) (pair.tests w h full mask first second) paper
+      Refusing (pairVerdict w h full mask first second) (pair-table.tests w h full mask first second) paper
       (paper .figures ≡ pair-answers.noNoise)
   pub dark-level : (w h full black : ℕ) (mask frame : List ℕ)
       → let paper = darkPaper w h full black mask frame in

@@ -13,15 +13,16 @@ use Rattle.verdict.specs.Verdict.{_⨟_, refuseIf}
 use Rattle.verdict.specs.declared.Refusal.{Refusal}
 use Rattle.verdict.specs.declared.Verdict.{Verdict}
 use Rattle.verdict.specs.declared.Verdict.the-variants as verdict
-use Rattle.verdict.proofs.Verdicts.{Test, Tabled, test, testFirst, tabled, tabled-none, tabled-then, then-clear, unless}
+use Rattle.verdict.proofs.Verdicts.{Test, Tabled, test, tabled, tabled-none, tabled-then, then-clear, unless}
 use Rattle.verdict.proofs.Answers.{was-accepted}
-use Rattle.window.specs.Shape.{badSides, badScale, sitesOf, walked}
-use Rattle.window.specs.View.{badCode, above, seen, one}
+use Rattle.window.specs.Shape.{badSides, badScale, sitesOf}
+use Rattle.window.specs.Walk.{walked}
+use Rattle.window.specs.View.{seen, one}
 use Rattle.window.proofs.Sides.{Sides, sides}
 use Rattle.window.proofs.Walks.{walked-whole}
 use Rattle.refusals.specs.Judge.{otherThan, frameVerdict}
 use Rattle.refusals.proofs.Chains.{length-clear}
-use Rattle.refusals.proofs.Judges.{frame-clear, frame-lent, frame-tabled}
+use Rattle.refusals.proofs.Judges.{codesTest, samplesTest, Framed, frame-clear, frame-lent, frame-tabled}
 use Rattle.lines.specs.Lines.{Lines, markAt}
 use Rattle.lines.specs.Walk.{lined}
 use Rattle.lines.specs.Marks.{marksOf, linesVerdict, linesAnswer, paperOf, linesPaper, linesBuffer}
@@ -52,8 +53,8 @@ module _ (lines : ℕ → ℕ → Lines) (w h full : ℕ) (mask frame : List ℕ
       ∷ test 4 0 (otherThan (sitesOf w h) (length mask))
       ∷ test 4 0 (otherThan (sitesOf w h) (length frame))
       ∷ test 4 0 (otherThan (marksOf (lines w h)) marks)
-      ∷ testFirst 5 (sitesOf w h) (badCode mask)
-      ∷ testFirst 6 (sitesOf w h) (above full (seen mask frame))
+      ∷ codesTest (sitesOf w h) mask
+      ∷ samplesTest (sitesOf w h) full (seen mask frame)
       ∷ test 9 0 (ltb (lines w h .count) 9)
       ∷ []
 
@@ -63,9 +64,8 @@ module _ (lines : ℕ → ℕ → Lines) (w h full : ℕ) (mask frame : List ℕ
 
   -- what an accepted call's numbers are
   pub record Accepted : Type 0 where
+    pub lent : Framed w h full mask frame
     pub legal : Sides w h
-    pub masked : length mask ≡ sitesOf w h
-    pub framed : length frame ≡ sitesOf w h
     pub marked : marks ≡ marksOf (lines w h)
     pub nine : 9 ≤ lines w h .count
 
@@ -75,9 +75,8 @@ module _ (lines : ℕ → ℕ → Lines) (w h full : ℕ) (mask frame : List ℕ
       let both = then-clear _ _ e in
       let lent = frame-clear w h full mask frame (both .0) in
       record {
+        lent = lent .2;
         legal = sides w h (lent .2 .of .legal);
-        masked = lent .2 .of .masked;
-        framed = lent .2 .framed;
         marked = length-clear (marksOf (lines w h)) marks (lent .1);
         nine = ltb-false (lines w h .count) 9 (unless 9 0 _ (both .1));
       }
@@ -99,8 +98,8 @@ ready vertical w h full mask frame marks n e c =
       omega (arith, a .nine),
       omega arith,
       omega (arith, a .marked),
-      omega (arith, walked-whole w h (length mask) (a .masked), a .legal .sites),
-      omega (arith, walked-whole w h (length frame) (a .framed), a .legal .sites),
+      omega (arith, walked-whole w h (length mask) (a .lent .of .masked), a .legal .sites),
+      omega (arith, walked-whole w h (length frame) (a .lent .framed), a .legal .sites),
     )
 
 module _ (lines : ℕ → ℕ → Lines) (w h full : ℕ) (mask frame marks : List ℕ) where

@@ -10,7 +10,7 @@ use lib.ListN.{length}
 use Rattle.laws.specs.Sum.{sumIn}
 use Rattle.laws.proofs.Sums.{in-ext}
 use Rattle.window.specs.View.{seen, one}
-use Rattle.window.specs.Shape.{walked}
+use Rattle.window.specs.Walk.{walked}
 use Rattle.plane.specs.Plane.{boxSums}
 use Rattle.plane.specs.declared.PlaneBox.{PlaneBox}
 use Rattle.plane.specs.declared.Sums.{Sums}

@@ -117,7 +117,7 @@ module _ (lines : ℕ → ℕ → Lines) (w h full : ℕ) (mask frame marks : Li
       ∙ tabulate-ext (length marks) _ _ (λ i l. mark-shift n up down (i % n) nine (mod-lt i (omega arith)) _ _ _
       (λ m b. line-shift (lines w h) w h (i / n) up down (one mask) (seen mask frame) (seen mask other)
       (λ y x low in-row. seen-shift mask frame other up down (siteAt w (i / n) y x)
-      (shift (siteAt w (i / n) y x) (omega (arith, site-in w h (i / n) y low x in-row, fit .masked, fit .legal .sites)))) m))
+      (shift (siteAt w (i / n) y x) (omega (arith, site-in w h (i / n) y low x in-row, fit .lent .of .masked, fit .legal .sites)))) m))
       ∙ accepted-is lines w h full mask other marks (done-clear lines w h full mask other (length marks) q) .1 .1
 
 -- the mark of column l of plane (a,b) is the mark of row l of plane (b,a) of the turned window, which is accepted too

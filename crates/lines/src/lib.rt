@@ -4,7 +4,7 @@ ghost use Prim.Native.Nat.{ℕ, _+_, _*_, _/_, _%_, _<_, _≤_};
 ghost use lib.ListN.{length, getD};
 ghost use Rattle.laws.specs.Table.{tabulate};
 ghost use Rattle.window.specs.View.{seen, one};
-ghost use Rattle.window.specs.Shape.{walked};
+ghost use Rattle.window.specs.Walk.{walked};
 ghost use Rattle.lines.specs.Lines.{rows, columns, before, after, pooled, defective, markOf, lineSum, markAt};
 ghost use Rattle.lines.specs.Walk.{lined};
 ghost use Rattle.lines.specs.Marks.{linesVerdict, linesAnswer, paperOf, linesPaper, linesBuffer};
@@ -45,7 +45,7 @@ fn judge(
     ensures { λ r. ⌜ r ≡ linesVerdict (lined vertical) width height «full_scale» (now (mask .entry)) (now (frame .entry)) marks ⌝ }
 {
     let lines = lines_of(vertical, width, height);
-    let marked = verdict::refuse_if(4, 0, marks != marks_of(lines));
+    let lengths = verdict::refuse_if(4, 0, marks != marks_of(lines));
     let lent = refusals::judge_frame(
         width,
         height,
@@ -53,7 +53,7 @@ fn judge(
         Verdict::Clear,
         mask,
         frame,
-        marked,
+        lengths,
     );
     let small = verdict::refuse_if(9, 0, lines < 9);
     verdict::then(lent, small)

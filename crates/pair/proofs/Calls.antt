@@ -19,38 +19,38 @@ use Rattle.pair.specs.declared.Noise.the-variants as noise
 use Rattle.pair.proofs.Measures.{Accepted, accepted, measured}
 
 module _ (w h full : ℕ) (mask first second : List ℕ) where
-  pub variance-refused : (r : Refusal) → pairVerdict w h full mask first second ≡ verdict.Refused r
+  pub variance-refused-is : (r : Refusal) → pairVerdict w h full mask first second ≡ verdict.Refused r
       → (variance.Refused r ≡ varianceAnswer w h full mask first second)
       × (variancePaperOf (variance.Refused r) ≡ variancePaper w h full mask first second)
   unfolding varianceAnswer variancePaper
-  variance-refused r e = rw e (refl, refl)
+  variance-refused-is r e = rw e (refl, refl)
 
-  pub noise-refused : (r : Refusal) → pairVerdict w h full mask first second ≡ verdict.Refused r
+  pub noise-refused-is : (r : Refusal) → pairVerdict w h full mask first second ≡ verdict.Refused r
       → (noise.Refused r ≡ noiseAnswer w h full mask first second)
       × (noisePaperOf (noise.Refused r) ≡ noisePaper w h full mask first second)
   unfolding noiseAnswer noisePaper
-  noise-refused r e = rw e (refl, refl)
+  noise-refused-is r e = rw e (refl, refl)
 
   -- s being n and P of an accepted pair
   module _ (s : Spread) (clear : pairVerdict w h full mask first second ≡ verdict.Clear) (e : s ≡ pairSpread w h mask first second) where
     pub in-bounds : (s .n ≤ 16384) × (s .p < 2 ^ 53)
     in-bounds = rw e (accepted clear .few, accepted clear .exact)
 
-    pub variance-given : (x : Float) → x ≡ quotientOrZero (s .p) (2 * (s .n * s .n))
+    pub variance-accepted-is : (x : Float) → x ≡ quotientOrZero (s .p) (2 * (s .n * s .n))
         → (variance.Figures (s .p) (2 * (s .n * s .n)) x ≡ varianceAnswer w h full mask first second)
         × (variancePaperOf (variance.Figures (s .p) (2 * (s .n * s .n)) x) ≡ variancePaper w h full mask first second)
     unfolding varianceAnswer variancePaper
-    variance-given x d =
+    variance-accepted-is x d =
         let pair = pairSpread w h mask first second in
         let near : quotientOrZero (pair .p) (2 * (pair .n * pair .n)) ≡ _ =
         ranged-quotient _ _ (variance-ranged (pair .p) (pair .n) (measured (accepted clear))) in
         rw (d, e, near, clear) (refl, refl)
 
-    pub noise-given : (x : Float) (r : ℕ) → r ≡ root (2048 * s .p) → x ≡ quotientOrZero r (64 * s .n)
+    pub noise-accepted-is : (x : Float) (r : ℕ) → r ≡ root (2048 * s .p) → x ≡ quotientOrZero r (64 * s .n)
         → (noise.Figure x r (s .n) ≡ noiseAnswer w h full mask first second)
         × (noisePaperOf (noise.Figure x r (s .n)) ≡ noisePaper w h full mask first second)
     unfolding noiseAnswer noisePaper
-    noise-given x r f d =
+    noise-accepted-is x r f d =
         let pair = pairSpread w h mask first second in
         let near : quotientOrZero (root (2048 * pair .p)) (64 * pair .n) ≡ _ =
         ranged-quotient _ _ (noise-ranged (pair .p) (pair .n) (measured (accepted clear))) in

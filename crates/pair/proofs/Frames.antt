@@ -4,13 +4,15 @@ use mathlib.Core.List.{List}
 use mathlib.Core.Path.{_≡_}
 use lib.ListN.{length}
 use Rattle.verdict.specs.Verdict.{_⨟_}
+use Rattle.verdict.specs.declared.Verdict.{Verdict}
 use Rattle.verdict.specs.declared.Verdict.the-variants as verdict
 use Rattle.verdict.proofs.Verdicts.{then-same, then-clear}
-use Rattle.window.specs.Shape.{sitesOf, walked}
+use Rattle.window.specs.Shape.{sitesOf}
+use Rattle.window.specs.Walk.{walked}
 use Rattle.window.specs.View.{seen}
-use Rattle.refusals.specs.Judge.{lengthOf, samplesOf, frameVerdict}
+use Rattle.refusals.specs.Judge.{lengthOf, samplesOf, maskVerdict}
 use Rattle.refusals.proofs.Chains.{length-clear, samples-clear, samples-whole}
-use Rattle.refusals.proofs.Judges.{Framed, frame-clear}
+use Rattle.refusals.proofs.Judges.{Framed, mask-clear}
 use Rattle.pair.specs.Pair.{framesVerdict}
 
 -- what two frames are that 1 to 6 do not refuse
@@ -19,26 +21,35 @@ pub record Readable (w h full : ℕ) (mask first second : List ℕ) : Type 0 whe
   pub of-second : Framed w h full mask second
 
 module _ (w h full : ℕ) (mask first second : List ℕ) where
-  -- 6 of the second frame is asked of whole buffers: 4 comes first
-  pub judged : frameVerdict w h full verdict.Clear mask first (lengthOf w h (length second))
-      ⨟ samplesOf (min (walked w h (length mask)) (walked w h (length second))) full (seen mask second)
-      ≡ framesVerdict w h full mask first second
+  -- what `refusals::samples` asks of a frame
+  abbrev pub over : List ℕ → Verdict
+  over frame = samplesOf (min (walked w h (length mask)) (walked w h (length frame))) full (seen mask frame)
+
+  abbrev pub lengths : Verdict
+  lengths = lengthOf w h (length first) ⨟ lengthOf w h (length second)
+
+  long : lengths ≡ verdict.Clear → (length first ≡ sitesOf w h) × (length second ≡ sitesOf w h)
+  long e =
+      let both = then-clear _ _ e in
+      (length-clear (sitesOf w h) (length first) (both .0), length-clear (sitesOf w h) (length second) (both .1))
+
+  -- 6 is asked of whole buffers: 4 comes first
+  pub judged : maskVerdict w h full verdict.Clear mask lengths ⨟ over first ⨟ over second ≡ framesVerdict w h full mask first second
   unfolding framesVerdict
   judged =
-      then-same (frameVerdict w h full verdict.Clear mask first (lengthOf w h (length second))) (λ e.
-      let lent = frame-clear w h full mask first e in
-      samples-whole w h full mask second (lent .2 .of .masked) (length-clear (sitesOf w h) (length second) (lent .1)))
+      then-same (maskVerdict w h full verdict.Clear mask lengths) (λ e.
+      let masked = mask-clear w h full mask e in
+      let both = long (masked .1) in
+      rw (samples-whole w h full mask first (masked .2 .masked) (both .0), samples-whole w h full mask second (masked .2 .masked) (both .1)))
 
   pub readable : framesVerdict w h full mask first second ≡ verdict.Clear → Readable w h full mask first second
   unfolding framesVerdict
   readable e =
-      let both = then-clear _ _ e in
-      let lent = frame-clear w h full mask first (both .0) in
+      let all = then-clear _ _ e in
+      let masked = mask-clear w h full mask (all .0) in
+      let both = long (masked .1) in
+      let range = then-clear _ _ (all .1) in
       record {
-        of-first = lent .2;
-        of-second = record {
-          of = lent .2 .of;
-          framed = length-clear (sitesOf w h) (length second) (lent .1);
-          range = samples-clear (sitesOf w h) full (seen mask second) (both .1);
-        };
+        of-first = record { of = masked .2; framed = both .0; range = samples-clear (sitesOf w h) full (seen mask first) (range .0) };
+        of-second = record { of = masked .2; framed = both .1; range = samples-clear (sitesOf w h) full (seen mask second) (range .1) };
       }

@@ -1,6 +1,6 @@
 -- From the refusals to n and P: the tests that follow the walk are the rest of the one chain, and what passes them is measured.
 use Prim.Native.Nat.{ℕ, _^_, _≤_, _<_}
-use mathlib.Core.List.{List}
+use mathlib.Core.List.{List, [], _∷_}
 use mathlib.Core.Path.{_≡_, sym, ap, _∙_}
 use native.Mathlib.Nat.{le-trans}
 use native.Mathlib.Omega.{arith}
@@ -13,22 +13,47 @@ use Rattle.laws.specs.Signed.{apart}
 use Rattle.laws.proofs.Squares.{squares}
 use Rattle.laws.proofs.Cases.{times-le}
 use Rattle.exact.proofs.Noises.{Measured}
-use Rattle.verdict.specs.Verdict.{_⨟_, refuseIf}
+use Rattle.verdict.specs.Verdict.{_⨟_, refuseIf, refuseFirst}
 use Rattle.verdict.specs.declared.Refusal.{Refusal}
 use Rattle.verdict.specs.declared.Verdict.{Verdict}
 use Rattle.verdict.specs.declared.Verdict.the-variants as verdict
-use Rattle.verdict.proofs.Verdicts.{then-clear, then-end, unless}
+use Rattle.verdict.proofs.Verdicts.{Test, Tabled, test, tabled, tabled-none, tabled-then, then-clear, then-end, unless}
 use Rattle.verdict.proofs.Answers.{was-accepted}
-use Rattle.window.specs.Shape.{sitesOf}
+use Rattle.window.specs.Shape.{badSides, badScale, sitesOf}
 use Rattle.window.specs.View.{one, seen}
 use Rattle.window.proofs.Sides.{scale, sites-few}
 use Rattle.window.proofs.Views.{surveyed-most}
+use Rattle.refusals.specs.Judge.{otherThan}
+use Rattle.refusals.proofs.Judges.{codesTest, samplesTest, mask-tabled}
 use Rattle.pair.specs.Pair.{spreadOf, pairSpread, framesVerdict, pairVerdict}
 use Rattle.pair.specs.Walk.{measurement}
 use Rattle.pair.specs.declared.Spread.{Spread}
 use Rattle.pair.specs.declared.Measurement.the-variants as taken
 use Rattle.pair.proofs.Frames.{Readable, readable}
 use Rattle.pair.proofs.Spreads.{spread-is}
+
+module _ (w h full : ℕ) (mask first second : List ℕ) where
+  -- the tests of both calls in the order of document 01
+  abbrev pub tests : List Test
+  tests =
+      test 1 0 (badSides w h)
+      ∷ test 2 0 (badScale full)
+      ∷ test 4 0 (otherThan (sitesOf w h) (length mask))
+      ∷ test 4 0 (otherThan (sitesOf w h) (length first))
+      ∷ test 4 0 (otherThan (sitesOf w h) (length second))
+      ∷ codesTest (sitesOf w h) mask
+      ∷ samplesTest (sitesOf w h) full (seen mask first)
+      ∷ samplesTest (sitesOf w h) full (seen mask second)
+      ∷ test 7 0 (ltb (pairSpread w h mask first second .n) 2)
+      ∷ test 14 0 (leb (2 ^ 53) (pairSpread w h mask first second .p))
+      ∷ []
+
+  pub table : Tabled (pairVerdict w h full mask first second) tests
+  unfolding pairVerdict framesVerdict refuseFirst
+  table =
+      tabled-then
+      (tabled-then (mask-tabled w h full mask tabled-none (tabled-then (tabled _ []) (tabled _ []))) (tabled-then (tabled _ []) (tabled _ [])))
+      (tabled _ _)
 
 -- 7 and 14, of n and P
 abbrev pub last : Spread → Verdict

@@ -1,9 +1,9 @@
 -- What is promised of `pair_variance` and `pair_noise`, for any numbers, any mask and any two frames.
 use Prim.Native.Nat.{ℕ, _*_, _^_, _≤_, _<_}
-use mathlib.Core.List.{List, [], _∷_}
+use mathlib.Core.List.{List}
 use mathlib.Core.Path.{_≡_, refl, sym, ap, _∙_}
 use native.Mathlib.Omega.{arith}
-use lib.Dec.{T, leb, ltb}
+use lib.Dec.{T, ltb}
 use lib.Ieee.{Float, binary64, ofBits}
 use lib.Ieee.Positive.{num, den}
 use lib.IntN.{pos}
@@ -18,22 +18,20 @@ use Rattle.exact.specs.Bound.{plain, CloseTo, NearRoot}
 use Rattle.exact.proofs.Roots.{root-is}
 use Rattle.exact.proofs.Quotients.{quotient-zero, zero-bits}
 use Rattle.exact.proofs.Noises.{variance-ranged, variance-near, noise-near, noise-plain, noise-zero}
-use Rattle.verdict.specs.Verdict.{_⨟_, refuseIf, refuseFirst}
+use Rattle.verdict.specs.Verdict.{_⨟_, refuseIf}
 use Rattle.verdict.specs.declared.Verdict.the-variants as verdict
-use Rattle.verdict.proofs.Verdicts.{Test, Tabled, Refuses, test, testFirst, tabled, tabled-none, tabled-then, refuses, zero-clear, then-same}
+use Rattle.verdict.proofs.Verdicts.{Tabled, Refuses, refuses, zero-clear, then-same}
 use Rattle.verdict.proofs.Answers.{paper-told}
-use Rattle.window.specs.Shape.{badSides, badScale, sitesOf}
-use Rattle.window.specs.View.{badCode, above, seen, one}
+use Rattle.window.specs.Shape.{sitesOf}
+use Rattle.window.specs.View.{seen, one}
 use Rattle.window.proofs.Views.{Agree, same-view}
-use Rattle.refusals.specs.Judge.{otherThan, frameVerdict}
-use Rattle.refusals.proofs.Judges.{frame-tabled}
 use Rattle.pair.specs.Pair.{difference, numerator, spreadOf, pairSpread, framesVerdict, pairVerdict}
 use Rattle.pair.specs.Answers.{noVariance, varianceAnswer, variancePaperOf, variancePaper, noNoise, noiseAnswer, noisePaperOf, noisePaper}
 use Rattle.pair.specs.declared.Variance.the-variants as variance
 use Rattle.pair.specs.declared.Noise.the-variants as noise
 use Rattle.pair.proofs.Spreads.{SameDifference, whole, zero-same, same-zero}
 use Rattle.pair.proofs.Frames.{readable}
-use Rattle.pair.proofs.Measures.{below-53, measured, last-exact}
+use Rattle.pair.proofs.Measures.{tests, table, below-53, measured, last-exact}
 use Rattle.pair.proofs.Calls.{variance-was, noise-was}
 
 module _ (w h full : ℕ) (mask first second : List ℕ) where
@@ -41,25 +39,9 @@ module _ (w h full : ℕ) (mask first second : List ℕ) where
   pub only : Sole (varianceAnswer w h full mask first second) × Sole (noiseAnswer w h full mask first second)
   only = (sole _, sole _)
 
-  -- the tests of both calls in the order of document 01
-  abbrev pub tests : List Test
-  tests =
-      test 1 0 (badSides w h)
-      ∷ test 2 0 (badScale full)
-      ∷ test 4 0 (otherThan (sitesOf w h) (length mask))
-      ∷ test 4 0 (otherThan (sitesOf w h) (length first))
-      ∷ test 4 0 (otherThan (sitesOf w h) (length second))
-      ∷ testFirst 5 (sitesOf w h) (badCode mask)
-      ∷ testFirst 6 (sitesOf w h) (above full (seen mask first))
-      ∷ testFirst 6 (sitesOf w h) (above full (seen mask second))
-      ∷ test 7 0 (ltb (pairSpread w h mask first second .n) 2)
-      ∷ test 14 0 (leb (2 ^ 53) (pairSpread w h mask first second .p))
-      ∷ []
-
-  -- given: both calls refuse exactly as document 01 tables it
-  pub given : Tabled (pairVerdict w h full mask first second) tests
-  unfolding pairVerdict framesVerdict refuseFirst
-  given = tabled-then (tabled-then (frame-tabled w h full mask first tabled-none (tabled _ [])) (tabled _ [])) (tabled _ _)
+  -- given: both calls refuse exactly as document 01 tables it, in that order (`tests` has the table)
+  pub given : Tabled (pairVerdict w h full mask first second) (tests w h full mask first second)
+  given = table w h full mask first second
 
   -- refused: where the number is not 0 every other number but the place is 0, and where it is 0 so is the place
   pub refused :
@@ -175,7 +157,7 @@ module _ (w h full : ℕ) (mask first second : List ℕ) where
 pub blind : (w h full : ℕ) {mask first first′ second second′ : List ℕ} → Agree mask first first′ → Agree mask second second′
     → (varianceAnswer w h full mask first second ≡ varianceAnswer w h full mask first′ second′)
     × (noiseAnswer w h full mask first second ≡ noiseAnswer w h full mask first′ second′)
-unfolding varianceAnswer noiseAnswer pairVerdict framesVerdict frameVerdict
+unfolding varianceAnswer noiseAnswer pairVerdict framesVerdict
 blind w h full a b = rw (a .long, b .long, same-view a, same-view b) (refl, refl)
 
 -- one buffer given twice has P = 0, and both floats are 0

@@ -15,6 +15,7 @@ pub record VarianceFigures : Type 0 where
   pub q : ℕ
   pub variance : Float
 
+-- every number 0: what stands beside a refusal
 abbrev pub noVariance : VarianceFigures
 noVariance = record { p = 0; q = 0; variance = ofBits binary64 0 }
 
@@ -45,6 +46,7 @@ pub record NoiseFigures : Type 0 where
   pub r : ℕ
   pub n : ℕ
 
+-- every number 0: what stands beside a refusal
 abbrev pub noNoise : NoiseFigures
 noNoise = record { noise = ofBits binary64 0; r = 0; n = 0 }
 

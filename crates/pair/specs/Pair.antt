@@ -14,7 +14,7 @@ use Rattle.verdict.specs.declared.Verdict.{Verdict}
 use Rattle.verdict.specs.declared.Verdict.the-variants as verdict
 use Rattle.window.specs.Shape.{sitesOf}
 use Rattle.window.specs.View.{one, seen}
-use Rattle.refusals.specs.Judge.{lengthOf, samplesOf, frameVerdict}
+use Rattle.refusals.specs.Judge.{lengthOf, samplesOf, maskVerdict}
 use Rattle.pair.specs.declared.Spread.{Spread}
 
 -- d: second frame minus first at a surveyed site; at any other, both are seen as 0
@@ -53,10 +53,11 @@ figuresOf s = record {
   noise = quotient (root (2048 * s .p)) (64 * s .n);
 }
 
--- the refusals of both calls in their order: 1, 2, 4, 5, 6 of the first frame, then 6 of the second
+-- the refusals of both calls in their order: 1, 2, 4 and 5, then 6, the first frame's sites before the second's
 unfoldable pub framesVerdict : ℕ → ℕ → ℕ → List ℕ → List ℕ → List ℕ → Verdict
 framesVerdict w h full mask first second =
-    frameVerdict w h full verdict.Clear mask first (lengthOf w h (length second))
+    maskVerdict w h full verdict.Clear mask (lengthOf w h (length first) ⨟ lengthOf w h (length second))
+    ⨟ samplesOf (sitesOf w h) full (seen mask first)
     ⨟ samplesOf (sitesOf w h) full (seen mask second)
 
 -- then fewer than 2 surveyed sites, and P of 2^53 or more

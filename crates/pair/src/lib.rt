@@ -52,18 +52,13 @@ fn judge(
 ) -> Verdict
     ensures { λ r. ⌜ r ≡ framesVerdict width height «full_scale» (now (mask .entry)) (now (first .entry)) (now (second .entry)) ⌝ }
 {
-    let lengths = refusals::length(width, height, second.len());
-    let of_first = refusals::judge_frame(
-        width,
-        height,
-        full_scale,
-        Verdict::Clear,
-        mask,
-        first,
-        lengths,
-    );
-    let of_second = refusals::samples(width, height, full_scale, mask, second);
-    verdict::then(of_first, of_second)
+    let of_first = refusals::length(width, height, first.len());
+    let of_second = refusals::length(width, height, second.len());
+    let lengths = verdict::then(of_first, of_second);
+    let masked = refusals::judge_mask(width, height, full_scale, Verdict::Clear, mask, lengths);
+    let over_first = refusals::samples(width, height, full_scale, mask, first);
+    let over_second = refusals::samples(width, height, full_scale, mask, second);
+    verdict::then(masked, verdict::then(over_first, over_second))
 }
 
 // |d| of two samples, at 16 bits: with exact::apart, at 64, the call takes twice the time.

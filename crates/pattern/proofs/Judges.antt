@@ -12,15 +12,15 @@ use Rattle.laws.proofs.Firsts.{first-nowhere, first-ext}
 use Rattle.verdict.specs.Verdict.{_⨟_, refuseIf}
 use Rattle.verdict.specs.declared.Refusal.{Refusal}
 use Rattle.verdict.specs.declared.Verdict.the-variants as verdict
-use Rattle.verdict.proofs.Verdicts.{Test, Tabled, test, testFirst, tabled, tabled-then, then-same, then-clear, unless}
+use Rattle.verdict.proofs.Verdicts.{Test, Tabled, test, tabled, tabled-then, then-same, then-clear, unless}
 use Rattle.verdict.proofs.Answers.{was-accepted}
 use Rattle.window.specs.Shape.{badCount, badSides, badScale, sitesOf}
-use Rattle.window.specs.View.{codeAbove, badCode, surveyed, seen, above}
+use Rattle.window.specs.View.{codeAbove, surveyed, seen, above}
 use Rattle.window.proofs.Sides.{frame-count, Sides, Scale, sides, scale}
 use Rattle.window.proofs.Views.{seen-is, seen-in}
 use Rattle.refusals.specs.Judge.{otherThan, lengthOf, maskVerdict}
 use Rattle.refusals.proofs.Chains.{length-clear, in-range}
-use Rattle.refusals.proofs.Judges.{mask-clear, mask-tabled}
+use Rattle.refusals.proofs.Judges.{codesTest, mask-clear, mask-tabled}
 use Rattle.pattern.specs.Lines.{Lines, lineTotal}
 use Rattle.pattern.specs.Pattern.{unsurveyed, patternVerdict, patternFigures, patternAnswer, paperOf, patternPaper}
 use Rattle.pattern.specs.Walk.{lined, lineOf, held, Accepted}
@@ -75,7 +75,7 @@ module _ (lines : ℕ → ℕ → Lines) (w h full k : ℕ) (mask sums : List �
       ∷ test 3 0 (badCount k)
       ∷ test 4 0 (otherThan (sitesOf w h) (length mask))
       ∷ test 4 0 (otherThan (sitesOf w h) (length sums))
-      ∷ testFirst 5 (sitesOf w h) (badCode mask)
+      ∷ codesTest (sitesOf w h) mask
       ∷ test 8 0 (someTo (sitesOf w h) (unsurveyed mask))
       ∷ test 9 0 (ltb (lines w h .count) 12)
       ∷ test 11 0 (someTo (sitesOf w h) (above (k * full) (seen mask sums)))
@@ -145,9 +145,9 @@ module _ (lines : ℕ → ℕ → Lines) (w h full k : ℕ) (mask sums : List �
   accepted-is figures e f = rw (e, f) (refl, refl)
 
   -- what figures that are answered say
-  pub measured-is : (figures : Figures) → patternAnswer lines w h full k mask sums ≡ Measured figures
+  pub answer-is : (figures : Figures) → patternAnswer lines w h full k mask sums ≡ Measured figures
       → (patternVerdict lines w h full k mask sums ≡ verdict.Clear) × (figures ≡ patternFigures (lines w h) full k (seen mask sums))
   unfolding patternAnswer
-  measured-is figures e =
+  answer-is figures e =
       let was = was-accepted (patternVerdict lines w h full k mask sums) (λ r f. let z : _≡_ {A = ℕ} 0 1 = cc in absurd (omega arith)) e in
       (was .0, cc)

@@ -22,7 +22,7 @@ use Rattle.pattern.specs.declared.Figures.{Figures}
 use Rattle.pattern.specs.declared.Pattern.the-variants.{Measured}
 use Rattle.pattern.proofs.Totals.{count-is, long-is, side-le, side-ge, total-le, total-flat}
 use Rattle.pattern.proofs.Figuring.{level-le, max-le, level-flat, max-flat}
-use Rattle.pattern.proofs.Judges.{Clean, tests, table, clean, figures-seen, measured-is}
+use Rattle.pattern.proofs.Judges.{Clean, tests, table, clean, figures-seen, answer-is}
 use Rattle.pattern.proofs.Measures.{unit-le}
 use Rattle.pattern.proofs.Turns.{Turned, Twin, alike, moved, verdict-turned, figures-turned}
 
@@ -67,11 +67,11 @@ pub record Bounded (f : Figures) : Type 0 where
 module _ (vertical : Bool) (w h full k : ℕ) (mask sums : List ℕ) (figures : Figures)
     (accepted : patternAnswer (lined vertical) w h full k mask sums ≡ Measured figures) where
   passed : Clean vertical w h full k mask sums
-  passed = clean vertical w h full k mask sums (measured-is (lined vertical) w h full k mask sums figures accepted .0)
+  passed = clean vertical w h full k mask sums (answer-is (lined vertical) w h full k mask sums figures accepted .0)
 
   are : figures ≡ patternFigures (lined vertical w h) full k (held sums)
   are =
-      measured-is (lined vertical) w h full k mask sums figures accepted .1
+      answer-is (lined vertical) w h full k mask sums figures accepted .1
       ∙ sym (figures-seen vertical w h full k mask sums passed)
 
   enough : 12 ≤ lined vertical w h .count

@@ -36,6 +36,6 @@ figuresOf n unit C = record {
   «max_denominator» = 10 * unit;
 }
 
--- no number at all: what stands beside a refusal
+-- every number 0: what stands beside a refusal
 abbrev pub noFigures : Figures
 noFigures = record { «level_numerator» = 0; «level_denominator» = 0; «max_numerator» = pos 0; «max_denominator» = 0 }

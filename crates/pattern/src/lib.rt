@@ -77,8 +77,8 @@ fn judge(
     ensures { λ r. ⌜ r ≡ patternVerdict (lined vertical) width height «full_scale» frames (now (mask .entry)) (now (sums .entry)) ⌝ }
 {
     let count = verdict::refuse_if(3, 0, window::bad_count(frames));
-    let summed = refusals::length(width, height, sums.len());
-    let lent = refusals::judge_mask(width, height, full_scale, count, mask, summed);
+    let lengths = refusals::length(width, height, sums.len());
+    let lent = refusals::judge_mask(width, height, full_scale, count, mask, lengths);
     let unsurveyed = verdict::refuse_if(8, 0, window::some_code_above(0, mask));
     let small = verdict::refuse_if(9, 0, line_of(vertical, height, width) < 12);
     let impossible = verdict::refuse_if(11, 0, some_above(most(full_scale, frames), sums));

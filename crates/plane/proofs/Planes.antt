@@ -9,7 +9,8 @@ use lib.ListN.{length, getD}
 use borrow.Author.Tests.{eq-eqb, ne-eqb}
 use Rattle.laws.specs.Sum.{sumBox}
 use Rattle.laws.proofs.Sums.{box-ext, box-scaled, box-le, box-shift, box-cut, box-turned}
-use Rattle.window.specs.Shape.{sitesOf, walked}
+use Rattle.window.specs.Shape.{sitesOf}
+use Rattle.window.specs.Walk.{walked}
 use Rattle.window.specs.View.{seen, one}
 use Rattle.window.proofs.Sides.{Sides}
 use Rattle.window.proofs.Views.{seen-is, seen-le, seen-counted}

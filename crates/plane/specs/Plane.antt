@@ -6,7 +6,7 @@ use lib.Dec.{eqb}
 use lib.ListN.{length}
 use Rattle.laws.specs.Sum.{sumBox}
 use Rattle.window.specs.View.{seen, one}
-use Rattle.window.specs.Shape.{walked}
+use Rattle.window.specs.Walk.{walked}
 use Rattle.plane.specs.declared.PlaneBox.{PlaneBox}
 use Rattle.plane.specs.declared.Sums.{Sums}
 

@@ -13,7 +13,8 @@ use Rattle.verdict.specs.Verdict.{_⨟_, refuseIf, refuseFirst}
 use Rattle.verdict.specs.declared.Verdict.{Verdict}
 use Rattle.verdict.specs.declared.Verdict.the-variants.{Clear}
 use Rattle.verdict.proofs.Verdicts.{Tabled, test, tabled, then-same, then-clear, clear-then, unless, clear-unless}
-use Rattle.window.specs.Shape.{badSides, badScale, sitesOf, walked}
+use Rattle.window.specs.Shape.{badSides, badScale, sitesOf}
+use Rattle.window.specs.Walk.{walked}
 use Rattle.window.specs.View.{badCode, above, seen}
 use Rattle.window.proofs.Walks.{walked-whole}
 use Rattle.refusals.specs.Judge.{shapeOf, otherThan, codesOf, samplesOf}

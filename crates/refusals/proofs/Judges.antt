@@ -8,10 +8,18 @@ use Rattle.verdict.specs.Verdict.{_⨟_, refuseFirst}
 use Rattle.verdict.specs.declared.Verdict.{Verdict}
 use Rattle.verdict.specs.declared.Verdict.the-variants.{Clear}
 use Rattle.verdict.proofs.Verdicts.{Test, Tabled, test, testFirst, tabled, tabled-then, then-same, then-clear, clear-then}
-use Rattle.window.specs.Shape.{badSides, badScale, sitesOf, walked}
+use Rattle.window.specs.Shape.{badSides, badScale, sitesOf}
+use Rattle.window.specs.Walk.{walked}
 use Rattle.window.specs.View.{badCode, above, seen}
 use Rattle.refusals.specs.Judge.{shapeOf, otherThan, lengthOf, codesOf, samplesOf, maskVerdict, frameVerdict}
 use Rattle.refusals.proofs.Chains.{shape-clear, clear-shape, shape-tabled, length-clear, clear-length, codes-clear, clear-codes, samples-clear, clear-samples, measured, codes-whole, samples-whole}
+
+-- 5 and 6 as tests of a table, at the first of n sites
+abbrev pub codesTest : ℕ → List ℕ → Test
+codesTest n mask = testFirst 5 n (badCode mask)
+
+abbrev pub samplesTest : ℕ → ℕ → (ℕ → ℕ) → Test
+samplesTest n full view = testFirst 6 n (above full view)
 
 -- a mask in a window that 1 to 5 do not refuse
 pub record Masked (w h full : ℕ) (mask : List ℕ) : Type 0 where
@@ -72,7 +80,7 @@ module _ (w h full : ℕ) (mask : List ℕ) where
   mask-tests parameters lengths =
       test 1 0 (badSides w h)
       ∷ test 2 0 (badScale full)
-      ∷ (parameters ++ (test 4 0 (otherThan (sitesOf w h) (length mask)) ∷ (lengths ++ (testFirst 5 (sitesOf w h) (badCode mask) ∷ []))))
+      ∷ (parameters ++ (test 4 0 (otherThan (sitesOf w h) (length mask)) ∷ (lengths ++ (codesTest (sitesOf w h) mask ∷ []))))
 
   pub mask-tabled : {parameters lengths : Verdict} {ps ls : List Test} → Tabled parameters ps → Tabled lengths ls
       → Tabled (maskVerdict w h full parameters mask lengths) (mask-tests ps ls)
@@ -118,7 +126,7 @@ module _ (w h full : ℕ) (mask frame : List ℕ) where
   abbrev pub frame-tests : List Test → List Test → List Test
   frame-tests parameters lengths =
       mask-tests w h full mask parameters (test 4 0 (otherThan (sitesOf w h) (length frame)) ∷ lengths)
-      ++ (testFirst 6 (sitesOf w h) (above full (seen mask frame)) ∷ [])
+      ++ (samplesTest (sitesOf w h) full (seen mask frame) ∷ [])
 
   pub frame-tabled : {parameters lengths : Verdict} {ps ls : List Test} → Tabled parameters ps → Tabled lengths ls
       → Tabled (frameVerdict w h full parameters mask frame lengths) (frame-tests ps ls)

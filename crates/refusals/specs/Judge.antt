@@ -30,8 +30,7 @@ codesOf n mask = refuseFirst 5 n (badCode mask)
 abbrev pub samplesOf : ℕ → ℕ → (ℕ → ℕ) → Verdict
 samplesOf n full view = refuseFirst 6 n (above full view)
 
--- 1 to 5 of a call with a mask, in their order. The call's own tests are handed in as verdicts: `parameters`, its 3, and `lengths`, its 4 of
--- the other buffers that are lent; `Clear` where it has none.
+-- 1 to 5 of a call with a mask, which hands in verdicts of its own: parameters, its 3, and lengths, its 4 of other buffers; Clear for none
 unfoldable pub maskVerdict : ℕ → ℕ → ℕ → Verdict → List ℕ → Verdict → Verdict
 maskVerdict w h full parameters mask lengths =
     shapeOf w h full

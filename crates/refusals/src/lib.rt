@@ -4,7 +4,7 @@ ghost use mathlib.Core.Path.{_≡_};
 ghost use Prim.Native.Nat.{_*_, min};
 ghost use lib.ListN.{length};
 ghost use Rattle.laws.specs.First.{firstTo, someTo};
-ghost use Rattle.window.specs.Shape.{walked};
+ghost use Rattle.window.specs.Walk.{walked};
 ghost use Rattle.window.specs.View.{badCode, seen, above};
 ghost use Rattle.refusals.specs.Judge.{shapeOf, lengthOf, codesOf, samplesOf, maskVerdict, frameVerdict};
 use verdict::Verdict;

@@ -6,12 +6,12 @@ use mathlib.Core.Path.{_≡_, refl}
 use lib.Dec.{ltb}
 use lib.ListN.{length}
 use Rattle.verdict.specs.declared.Verdict.the-variants.{Clear}
-use Rattle.verdict.proofs.Verdicts.{Tabled, Test, test, testFirst, tabled, tabled-none, tabled-then, then-clear, clear-then, unless, clear-unless}
+use Rattle.verdict.proofs.Verdicts.{Tabled, Test, test, tabled, tabled-none, tabled-then, then-clear, clear-then, unless, clear-unless}
 use Rattle.window.specs.Shape.{badSides, badScale, sitesOf}
-use Rattle.window.specs.View.{badCode, above, seen}
+use Rattle.window.specs.View.{seen}
 use Rattle.refusals.specs.Judge.{otherThan}
 use Rattle.refusals.proofs.Chains.{length-clear, clear-length}
-use Rattle.refusals.proofs.Judges.{Framed, frame-clear, clear-frame, frame-tabled}
+use Rattle.refusals.proofs.Judges.{codesTest, samplesTest, Framed, frame-clear, clear-frame, frame-tabled}
 use Rattle.sites.specs.Find.{findVerdict}
 use Rattle.sites.specs.Repair.{repairVerdict}
 
@@ -26,8 +26,8 @@ module _ (w h full t : ℕ) (mask frame : List ℕ) (out : ℕ) where
       ∷ test 4 0 (otherThan (sitesOf w h) (length mask))
       ∷ test 4 0 (otherThan (sitesOf w h) (length frame))
       ∷ test 4 0 (otherThan (sitesOf w h) out)
-      ∷ testFirst 5 (sitesOf w h) (badCode mask)
-      ∷ testFirst 6 (sitesOf w h) (above full (seen mask frame))
+      ∷ codesTest (sitesOf w h) mask
+      ∷ samplesTest (sitesOf w h) full (seen mask frame)
       ∷ []
 
   pub find-table : Tabled (findVerdict w h full t mask frame out) find-tests
@@ -56,8 +56,8 @@ module _ (w h full : ℕ) (mask frame : List ℕ) (outFrame outMask : ℕ) where
       ∷ test 4 0 (otherThan (sitesOf w h) (length frame))
       ∷ test 4 0 (otherThan (sitesOf w h) outFrame)
       ∷ test 4 0 (otherThan (sitesOf w h) outMask)
-      ∷ testFirst 5 (sitesOf w h) (badCode mask)
-      ∷ testFirst 6 (sitesOf w h) (above full (seen mask frame))
+      ∷ codesTest (sitesOf w h) mask
+      ∷ samplesTest (sitesOf w h) full (seen mask frame)
       ∷ []
 
   pub repair-table : Tabled (repairVerdict w h full mask frame outFrame outMask) repair-tests

@@ -11,18 +11,18 @@ use Rattle.laws.proofs.Cases.{times-le}
 use Rattle.verdict.specs.Verdict.{_⨟_, refuseIf}
 use Rattle.verdict.specs.declared.Refusal.{Refusal}
 use Rattle.verdict.specs.declared.Verdict.the-variants as verdict
-use Rattle.verdict.proofs.Verdicts.{Test, Tabled, test, testFirst, tabled, tabled-then, then-same, then-clear, unless}
+use Rattle.verdict.proofs.Verdicts.{Test, Tabled, test, tabled, tabled-then, then-same, then-clear, unless}
 use Rattle.window.specs.Shape.{badSides, badScale, sitesOf}
-use Rattle.window.specs.View.{badCode, above, seen}
+use Rattle.window.specs.View.{seen}
 use Rattle.window.proofs.Sides.{scale}
 use Rattle.window.proofs.Views.{seen-is, seen-out}
 use Rattle.refusals.specs.Judge.{otherThan, frameVerdict}
-use Rattle.refusals.proofs.Judges.{Framed, frame-clear, frame-tabled}
+use Rattle.refusals.proofs.Judges.{codesTest, samplesTest, Framed, frame-clear, frame-tabled}
 use Rattle.stack.specs.Sums.{stackLengths, impossibleIn, squared, added}
 use Rattle.stack.specs.Walk.{readable}
 use Rattle.stack.specs.Add.{addVerdict, addAnswer, addPaperOf, addPaper, addSums, addSquares}
 use Rattle.stack.specs.declared.Added.the-variants.{Frames, Refused}
-use Rattle.stack.proofs.Sites.{sums-clear, sums-tabled, Possible, asked-whole, all-possible}
+use Rattle.stack.proofs.Sites.{Lengths, lengths-clear, lengths-tabled, Possible, asked-whole, all-possible}
 use Rattle.stack.proofs.Turns.{leaves-room}
 
 module _ (w h full k : ℕ) (mask frame sums squares : List ℕ) where
@@ -36,15 +36,15 @@ module _ (w h full k : ℕ) (mask frame sums squares : List ℕ) where
       ∷ test 4 0 (otherThan (sitesOf w h) (length frame))
       ∷ test 4 0 (otherThan (sitesOf w h) (length sums))
       ∷ test 4 0 (otherThan (sitesOf w h) (length squares))
-      ∷ testFirst 5 (sitesOf w h) (badCode mask)
-      ∷ testFirst 6 (sitesOf w h) (above full (seen mask frame))
+      ∷ codesTest (sitesOf w h) mask
+      ∷ samplesTest (sitesOf w h) full (seen mask frame)
       ∷ test 11 0 (impossibleIn (sitesOf w h) full k (seen mask sums) (seen mask squares))
       ∷ test 12 0 (eqb k 100)
       ∷ []
 
   pub table : Tabled (addVerdict w h full k mask frame sums squares) tests
   unfolding addVerdict
-  table = tabled-then (frame-tabled w h full mask frame (tabled _ []) (sums-tabled w h (length sums) (length squares))) (tabled _ _)
+  table = tabled-then (frame-tabled w h full mask frame (tabled _ []) (lengths-tabled w h (length sums) (length squares))) (tabled _ _)
 
   -- 11 is asked of the sums of a whole window: 4 comes first
   pub judged : frameVerdict w h full (refuseIf 3 0 (ltb 100 k)) mask frame (stackLengths w h (length sums) (length squares))
@@ -60,9 +60,7 @@ module _ (w h full k : ℕ) (mask frame sums squares : List ℕ) where
   -- what is known of an accepted frame and the sums
   pub record Accepted : Type 0 where
     pub lent : Framed w h full mask frame
-    pub summed : length sums ≡ sitesOf w h
-    pub square-summed : length squares ≡ sitesOf w h
-    pub bright : full ≤ 4095
+    pub long : Lengths w h (length sums) (length squares)
     pub room : k < 100
     pub possible : (i : ℕ) → i < sitesOf w h → Possible full k (seen mask sums i) (seen mask squares i)
 
@@ -71,15 +69,12 @@ module _ (w h full k : ℕ) (mask frame sums squares : List ℕ) where
   accepted e =
       let both = then-clear _ _ e in
       let lent = frame-clear w h full mask frame (both .0) in
-      let long = sums-clear w h (length sums) (length squares) (lent .1) in
       let stacked = then-clear _ _ (both .1) in
       let most = ltb-false 100 k (unless 3 0 (ltb 100 k) (lent .0)) in
       let full-up = eqb-false k 100 (unless 12 0 (eqb k 100) (stacked .1)) in
       record {
         lent = lent .2;
-        summed = long .0;
-        square-summed = long .1;
-        bright = scale full (lent .2 .of .scaled) .high;
+        long = lengths-clear w h (length sums) (length squares) (lent .1);
         room = omega arith;
         possible = all-possible (sitesOf w h) full k (seen mask sums) (seen mask squares) (unless 11 0 _ (stacked .0));
       }
@@ -89,6 +84,9 @@ module _ (w h full k : ℕ) (mask frame sums squares : List ℕ) where
     inside : i < sitesOf w h
     inside = omega (arith, a .lent .of .masked)
 
+    bright : full ≤ 4095
+    bright = scale full (a .lent .of .scaled) .high
+
     none : (getD mask i 0 ≡ 0 → ⊥) → seen mask frame i ≡ 0
     none e = seen-is mask frame i ∙ seen-out (getD mask i 0) (getD frame i 0) e
 
@@ -96,15 +94,15 @@ module _ (w h full k : ℕ) (mask frame sums squares : List ℕ) where
     sum-room fits =
         let p = a .possible i inside .sum in
         let r = a .lent .range i inside in
-        let most = times-le k full 100 4095 (omega (arith, a .room)) (a .bright) in
+        let most = times-le k full 100 4095 (omega (arith, a .room)) bright in
         leaves-room (getD mask i 0) (getD sums i 0) (seen mask frame i) (100 * 4095 + 4095) fits
-        (rw (← seen-is mask sums i) (omega (arith, a .bright))) none (omega arith)
+        (rw (← seen-is mask sums i) (omega (arith, bright))) none (omega arith)
 
     pub square-room : getD squares i 0 < 2 ^ 32 → getD squares i 0 + squared (seen mask frame) i < 2 ^ 32
     square-room fits =
         let p = a .possible i inside .square in
         let r = times-le (seen mask frame i) (seen mask frame i) full full (a .lent .range i inside) (a .lent .range i inside) in
-        let f = times-le full full 4095 4095 (a .bright) (a .bright) in
+        let f = times-le full full 4095 4095 bright bright in
         let most = times-le k (full * full) 99 (4095 * 4095) (omega (arith, a .room)) f in
         leaves-room (getD mask i 0) (getD squares i 0) (squared (seen mask frame) i) (100 * (4095 * 4095)) fits
         (rw (← seen-is mask squares i) (omega arith)) (λ e. rw (none e)) (omega arith)

@@ -25,6 +25,7 @@ use Rattle.window.specs.View.{surveyed, seen, one}
 use Rattle.window.proofs.Sides.{scale, sites-few}
 use Rattle.window.proofs.Views.{Agree, same-view, seen-is, seen-in, seen-out}
 use Rattle.refusals.specs.Judge.{frameVerdict}
+use Rattle.refusals.proofs.Judges.{Masked}
 use Rattle.stack.specs.Sums.{impossibleIn, squared, added, spread}
 use Rattle.stack.specs.Add.{addVerdict, addAnswer, addPaperOf, addPaper, addSums, addSquares}
 use Rattle.stack.specs.Variance.{sumsVerdict, varianceVerdict, noVariance, varianceAnswer, variancePaperOf, variancePaper}
@@ -34,7 +35,7 @@ use Rattle.stack.proofs.Sites.{all-possible}
 use Rattle.stack.proofs.Turns.{added-same, added-keeps}
 use Rattle.stack.proofs.Adds as adds
 use Rattle.stack.proofs.Variances as variances
-use Rattle.stack.proofs.Runs.{over-ext, Reordered, as-many, InRange, AllInRange, range-order, range-repeated, sumAt, squareAt, sum-out, square-out, run-is, Legal, run-clear, taken, run-spread, variance-clear, equal-spread, same-stack}
+use Rattle.stack.proofs.Runs.{over-ext, Reordered, as-many, InRange, AllInRange, range-order, range-repeated, sumAt, squareAt, sum-out, square-out, run-is, run-clear, taken, run-spread, variance-clear, equal-spread, same-stack}
 
 -- ---- adding a frame
 module _ (w h full k : ℕ) (mask frame sums squares : List ℕ) where
@@ -145,7 +146,7 @@ module _ (w h full k : ℕ) (mask sums squares : List ℕ) where
       then-same (sumsVerdict w h full k mask sums squares) (λ clear.
       let a = variances.accepted w h full k mask sums squares clear in
       rw (lt-leb (2 ^ 53) (spread (sitesOf w h) k (seen mask sums) (seen mask squares))
-      (variances.spread-exact (sitesOf w h) full k (seen mask sums) (seen mask squares) (sites-few w h) (a .bright) (a .most) (a .possible))))
+      (variances.exact w h full k mask sums squares a)))
       ∙ then-end (sumsVerdict w h full k mask sums squares)
 
 -- ---- runs of frames, from zero sums, with one window, full scale and mask
@@ -179,7 +180,7 @@ module _ (w h full : ℕ) (mask : List ℕ) where
       (sum-out mask fs i out, square-out mask fs i out)
 
   -- a run of at most 100 frames in range is accepted: it never meets 11
-  pub run-accepted : Legal w h full mask → (fs : List (List ℕ)) → AllInRange (sitesOf w h) full mask fs → length fs ≤ 100
+  pub run-accepted : Masked w h full mask → (fs : List (List ℕ)) → AllInRange (sitesOf w h) full mask fs → length fs ≤ 100
       → runVerdict w h full mask fs ≡ verdict.Clear
   run-accepted legal fs ranged few = run-clear w h full mask legal fs ranged few
 
@@ -194,14 +195,14 @@ module _ (w h full : ℕ) (mask : List ℕ) where
       (other, run-is w h full mask (f ∷ fs) clear ∙ same-stack w h full mask order ∙ sym (run-is w h full mask gs other))
 
   -- two or more frames in range, with a surveyed site, have a variance
-  pub run-variance : Legal w h full mask → (fs : List (List ℕ)) → AllInRange (sitesOf w h) full mask fs → 2 ≤ length fs → length fs ≤ 100
+  pub run-variance : Masked w h full mask → (fs : List (List ℕ)) → AllInRange (sitesOf w h) full mask fs → 2 ≤ length fs → length fs ≤ 100
       → 0 < sumTo (sitesOf w h) (one mask)
       → varianceVerdict w h full (run w h full mask fs .frames) mask (run w h full mask fs .sums) (run w h full mask fs .squares) ≡ verdict.Clear
   run-variance legal fs ranged least most some =
       rw (run-is w h full mask fs (run-clear w h full mask legal fs ranged most)) (variance-clear w h full mask legal fs ranged least most some)
 
   -- and equal frames have the variance 0
-  pub run-equal : Legal w h full mask → (k : ℕ) (frame : List ℕ) → InRange (sitesOf w h) full mask frame → 2 ≤ k → k ≤ 100
+  pub run-equal : Masked w h full mask → (k : ℕ) (frame : List ℕ) → InRange (sitesOf w h) full mask frame → 2 ≤ k → k ≤ 100
       → 0 < sumTo (sitesOf w h) (one mask)
       → varianceAnswer w h full (run w h full mask (replicate k frame) .frames) mask (run w h full mask (replicate k frame) .sums) (run w h full mask (replicate k frame) .squares)
       ≡ Figures 0 (sumTo (sitesOf w h) (one mask) * (k * k)) floatZero

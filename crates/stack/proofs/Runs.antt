@@ -27,7 +27,7 @@ use Rattle.stack.specs.Sums.{stackLengths, impossibleAt, impossibleIn, s
 use Rattle.stack.specs.Add.{addVerdict, addSums, addSquares}
 use Rattle.stack.specs.Variance.{tooFew, sumsVerdict, varianceVerdict}
 use Rattle.stack.specs.Run.{Stack, offered, run, runVerdict, overFrames}
-use Rattle.stack.proofs.Sites.{clear-sums, Possible, is-possible, possible-none, possible-more}
+use Rattle.stack.proofs.Sites.{clear-lengths, Possible, is-possible, possible-none, possible-more}
 use Rattle.stack.proofs.Adds as adds
 use Rattle.stack.proofs.Variances as variances
 
@@ -152,10 +152,6 @@ module _ (w h full : ℕ) (mask : List ℕ) where
       ∙ stack-more fs f
 
   -- ---- which runs are accepted
-  -- a window, a full scale and a mask that 1, 2, 4 and 5 do not refuse
-  abbrev pub Legal : Type 0
-  Legal = Masked w h full mask
-
   module _ (fs : List (List ℕ)) where
     -- frames in range give sums that 11 does not refuse
     pub possible-at : AllInRange (sitesOf w h) full mask fs → (i : ℕ) → i < sitesOf w h → Possible full (length fs) (sumAt mask fs i) (squareAt mask fs i)
@@ -176,10 +172,12 @@ module _ (w h full : ℕ) (mask : List ℕ) where
 
     -- and are as many as the sites
     stack-long : stackLengths w h (length (stackOf fs .sums)) (length (stackOf fs .squares)) ≡ verdict.Clear
-    stack-long = clear-sums w h _ _ (length-tabulate (sitesOf w h) (sumAt mask fs)) (length-tabulate (sitesOf w h) (squareAt mask fs))
+    stack-long =
+        clear-lengths w h _ _
+        (record { of-sums = length-tabulate (sitesOf w h) (sumAt mask fs); of-squares = length-tabulate (sitesOf w h) (squareAt mask fs) })
 
     -- so a stack of fewer than 100 takes one more
-    takes-more : Legal → AllInRange (sitesOf w h) full mask fs → length fs < 100 → (f : List ℕ) → InRange (sitesOf w h) full mask f
+    takes-more : Masked w h full mask → AllInRange (sitesOf w h) full mask fs → length fs < 100 → (f : List ℕ) → InRange (sitesOf w h) full mask f
         → addVerdict w h full (length fs) mask f (stackOf fs .sums) (stackOf fs .squares) ≡ verdict.Clear
     unfolding addVerdict
     takes-more a r few f b =
@@ -188,7 +186,7 @@ module _ (w h full : ℕ) (mask : List ℕ) where
         (clear-then (clear-unless 11 0 (possible-in r)) (clear-unless 12 0 (ne-eqb (length fs) 100 (λ e. omega arith))))
 
   -- a run of at most 100 frames in range is accepted
-  pub run-clear : Legal → (fs : List (List ℕ)) → AllInRange (sitesOf w h) full mask fs → length fs ≤ 100 → runVerdict w h full mask fs ≡ verdict.Clear
+  pub run-clear : Masked w h full mask → (fs : List (List ℕ)) → AllInRange (sitesOf w h) full mask fs → length fs ≤ 100 → runVerdict w h full mask fs ≡ verdict.Clear
   unfolding runVerdict _⨟_
   run-clear a [] r few = refl
   run-clear a (f ∷ fs) r few =
@@ -197,7 +195,7 @@ module _ (w h full : ℕ) (mask : List ℕ) where
 
   -- and what an accepted run is made of
   pub record Taken (fs : List (List ℕ)) : Type 0 where
-    pub legal : Legal
+    pub legal : Masked w h full mask
     pub ranged : AllInRange (sitesOf w h) full mask fs
     pub few : length fs ≤ 100
 
@@ -231,7 +229,7 @@ module _ (w h full : ℕ) (mask : List ℕ) where
       (λ (i : ℕ). length fs * squareAt mask fs i - sumAt mask fs i * sumAt mask fs i)
       (λ i l. rw (shown mask (sitesOf w h) (sumAt mask fs) (sum-out mask fs) i l, shown mask (sitesOf w h) (squareAt mask fs) (square-out mask fs) i l))
 
-  pub variance-clear : Legal → (fs : List (List ℕ)) → AllInRange (sitesOf w h) full mask fs → 2 ≤ length fs → length fs ≤ 100
+  pub variance-clear : Masked w h full mask → (fs : List (List ℕ)) → AllInRange (sitesOf w h) full mask fs → 2 ≤ length fs → length fs ≤ 100
       → 0 < sumTo (sitesOf w h) (one mask)
       → varianceVerdict w h full (length fs) mask (stackOf fs .sums) (stackOf fs .squares) ≡ verdict.Clear
   unfolding varianceVerdict sumsVerdict badCount tooFew

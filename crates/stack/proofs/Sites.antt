@@ -2,7 +2,7 @@
 use Prim.Native.Nat.{ℕ, _+_, _*_, _≤_, _<_}
 use mathlib.Core.Bool.{true, false, _||_, _&&_}
 use mathlib.Core.List.{List, [], _∷_}
-use mathlib.Core.Path.{_≡_}
+use mathlib.Core.Path.{_≡_, sym, _∙_}
 use native.Mathlib.Nat.{add-mul}
 use native.Mathlib.Omega.{arith}
 use lib.Dec.{eqb, ltb, leb}
@@ -22,18 +22,23 @@ use Rattle.refusals.proofs.Judges.{Masked}
 use Rattle.stack.specs.Sums.{stackLengths, impossible, impossibleAt, impossibleIn}
 use Rattle.stack.specs.Walk.{readable}
 
--- 4 does not apply: of both there is one a site
+-- one of each a site
+pub record Lengths (w h sums squares : ℕ) : Type 0 where
+  pub of-sums : sums ≡ sitesOf w h
+  pub of-squares : squares ≡ sitesOf w h
+
+-- 4 of a stack's own buffers
 module _ (w h sums squares : ℕ) where
-  pub sums-clear : stackLengths w h sums squares ≡ Clear → (sums ≡ sitesOf w h) × (squares ≡ sitesOf w h)
-  sums-clear e =
+  pub lengths-clear : stackLengths w h sums squares ≡ Clear → Lengths w h sums squares
+  lengths-clear e =
       let both = then-clear _ _ e in
-      (length-clear (sitesOf w h) sums (both .0), length-clear (sitesOf w h) squares (both .1))
+      record { of-sums = length-clear (sitesOf w h) sums (both .0); of-squares = length-clear (sitesOf w h) squares (both .1) }
 
-  pub clear-sums : sums ≡ sitesOf w h → squares ≡ sitesOf w h → stackLengths w h sums squares ≡ Clear
-  clear-sums s q = clear-then (clear-length (sitesOf w h) sums s) (clear-length (sitesOf w h) squares q)
+  pub clear-lengths : Lengths w h sums squares → stackLengths w h sums squares ≡ Clear
+  clear-lengths l = clear-then (clear-length (sitesOf w h) sums (l .of-sums)) (clear-length (sitesOf w h) squares (l .of-squares))
 
-  pub sums-tabled : Tabled (stackLengths w h sums squares) (test 4 0 (otherThan (sitesOf w h) sums) ∷ test 4 0 (otherThan (sitesOf w h) squares) ∷ [])
-  sums-tabled = tabled _ _
+  pub lengths-tabled : Tabled (stackLengths w h sums squares) (test 4 0 (otherThan (sitesOf w h) sums) ∷ test 4 0 (otherThan (sitesOf w h) squares) ∷ [])
+  lengths-tabled = tabled _ _
 
 pub record Readable (full k mask sums squares : ℕ) : Type 0 where
   pub scale : full ≤ 4095
@@ -94,10 +99,10 @@ pub asked-whole : (w h full k : ℕ) (mask sums squares : List ℕ) → Masked w
     → (readable full k (length mask) (length sums) (length squares) && impossibleIn (length mask) full k (seen mask sums) (seen mask squares))
     ≡ impossibleIn (sitesOf w h) full k (seen mask sums) (seen mask squares)
 asked-whole w h full k mask sums squares m most lent =
-    let long = sums-clear w h (length sums) (length squares) lent in
+    let long = lengths-clear w h (length sums) (length squares) lent in
     let r =
     is-readable full k (length mask) (length sums) (length squares)
-    (record { scale = scale full (m .scaled) .high; count = most; long = omega (arith, m .masked); square-long = omega (arith, m .masked) }) in
+    (record { scale = scale full (m .scaled) .high; count = most; long = long .of-sums ∙ sym (m .masked); square-long = long .of-squares ∙ sym (m .masked) }) in
     rw (r, m .masked)
 
 -- where 11 does not apply, every site's sums are possible

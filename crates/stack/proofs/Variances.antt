@@ -17,20 +17,21 @@ use Rattle.exact.proofs.Quotients.{Ranged, ranged-quotient}
 use Rattle.verdict.specs.Verdict.{_⨟_, refuseIf}
 use Rattle.verdict.specs.declared.Refusal.{Refusal}
 use Rattle.verdict.specs.declared.Verdict.the-variants as verdict
-use Rattle.verdict.proofs.Verdicts.{Test, Tabled, test, testFirst, tabled, tabled-then, then-same, then-clear, unless}
+use Rattle.verdict.proofs.Verdicts.{Test, Tabled, test, tabled, tabled-then, then-same, then-clear, unless}
 use Rattle.verdict.proofs.Answers.{was-accepted}
-use Rattle.window.specs.Shape.{badCount, badSides, badScale, sitesOf, walked}
-use Rattle.window.specs.View.{badCode, seen, one}
+use Rattle.window.specs.Shape.{badCount, badSides, badScale, sitesOf}
+use Rattle.window.specs.Walk.{walked}
+use Rattle.window.specs.View.{seen, one}
 use Rattle.window.proofs.Sides.{frame-count, scale, sites-few}
 use Rattle.window.proofs.Walks.{walked-whole}
 use Rattle.window.proofs.Views.{surveyed-most}
 use Rattle.refusals.specs.Judge.{otherThan, maskVerdict}
-use Rattle.refusals.proofs.Judges.{mask-clear, mask-tabled}
+use Rattle.refusals.proofs.Judges.{codesTest, Masked, mask-clear, mask-tabled}
 use Rattle.stack.specs.Sums.{stackLengths, impossibleIn, spread}
 use Rattle.stack.specs.Walk.{readable}
 use Rattle.stack.specs.Variance.{tooFew, sumsVerdict, varianceVerdict, varianceAnswer, variancePaperOf, variancePaper}
 use Rattle.stack.specs.declared.Variance.the-variants.{Figures, Refused}
-use Rattle.stack.proofs.Sites.{sums-clear, sums-tabled, Possible, asked-whole, all-possible}
+use Rattle.stack.proofs.Sites.{Lengths, lengths-clear, lengths-tabled, Possible, asked-whole, all-possible}
 
 -- 7 does not apply
 pub enough : (n k : ℕ) → tooFew n k ≡ false → (0 < n) × (2 ≤ k)
@@ -65,7 +66,7 @@ module _ (w h full k : ℕ) (mask sums squares : List ℕ) where
       ∷ test 4 0 (otherThan (sitesOf w h) (length mask))
       ∷ test 4 0 (otherThan (sitesOf w h) (length sums))
       ∷ test 4 0 (otherThan (sitesOf w h) (length squares))
-      ∷ testFirst 5 (sitesOf w h) (badCode mask)
+      ∷ codesTest (sitesOf w h) mask
       ∷ test 7 0 (tooFew (sumTo (sitesOf w h) (one mask)) k)
       ∷ test 11 0 (impossibleIn (sitesOf w h) full k (seen mask sums) (seen mask squares))
       ∷ test 14 0 (leb (2 ^ 53) (spread (sitesOf w h) k (seen mask sums) (seen mask squares)))
@@ -75,7 +76,7 @@ module _ (w h full k : ℕ) (mask sums squares : List ℕ) where
   unfolding varianceVerdict sumsVerdict
   table =
       tabled-then
-      (tabled-then (mask-tabled w h full mask (tabled _ []) (sums-tabled w h (length sums) (length squares))) (tabled _ (_ ∷ [])))
+      (tabled-then (mask-tabled w h full mask (tabled _ []) (lengths-tabled w h (length sums) (length squares))) (tabled _ (_ ∷ [])))
       (tabled _ [])
 
   -- 7 is asked of what was counted in a whole mask, and 11 of the sums of a whole window: 4 comes first
@@ -93,10 +94,8 @@ module _ (w h full k : ℕ) (mask sums squares : List ℕ) where
 
   -- what is known of sums that 1 to 11 do not refuse
   pub record Accepted : Type 0 where
-    pub masked : length mask ≡ sitesOf w h
-    pub summed : length sums ≡ sitesOf w h
-    pub squared : length squares ≡ sitesOf w h
-    pub bright : full ≤ 4095
+    pub lent : Masked w h full mask
+    pub long : Lengths w h (length sums) (length squares)
     pub most : k ≤ 100
     pub least : 2 ≤ k
     pub some : 0 < sumTo (sitesOf w h) (one mask)
@@ -107,14 +106,11 @@ module _ (w h full k : ℕ) (mask sums squares : List ℕ) where
   accepted e =
       let both = then-clear _ _ e in
       let lent = mask-clear w h full mask (both .0) in
-      let long = sums-clear w h (length sums) (length squares) (lent .1) in
       let stacked = then-clear _ _ (both .1) in
       let some = enough (sumTo (sitesOf w h) (one mask)) k (unless 7 0 _ (stacked .0)) in
       record {
-        masked = lent .2 .masked;
-        summed = long .0;
-        squared = long .1;
-        bright = scale full (lent .2 .scaled) .high;
+        lent = lent .2;
+        long = lengths-clear w h (length sums) (length squares) (lent .1);
         most = frame-count k (unless 3 0 (badCount k) (lent .0)) .high;
         least = some .1;
         some = some .0;
@@ -123,12 +119,15 @@ module _ (w h full k : ℕ) (mask sums squares : List ℕ) where
 
   -- so the quotient is of two numbers that have exact floats
   module _ (a : Accepted) where
+    pub exact : spread (sitesOf w h) k (seen mask sums) (seen mask squares) < 2 ^ 53
+    exact = spread-exact (sitesOf w h) full k (seen mask sums) (seen mask squares) (sites-few w h) (scale full (a .lent .scaled) .high) (a .most) (a .possible)
+
     pub ranged : Ranged (spread (sitesOf w h) k (seen mask sums) (seen mask squares)) (sumTo (sitesOf w h) (one mask) * (k * k))
     ranged =
         let square = times-le k k 100 100 (a .most) (a .most) in
         let frames : 0 < k = omega (arith, a .least) in
         record {
-          top = omega (arith, spread-exact (sitesOf w h) full k (seen mask sums) (seen mask squares) (sites-few w h) (a .bright) (a .most) (a .possible));
+          top = omega (arith, exact);
           some = mul-pos (a .some) (mul-pos frames frames);
           bottom = omega (arith, times-le (sumTo (sitesOf w h) (one mask)) (k * k) 16384 10000 (surveyed-most w h mask) square);
         }
@@ -156,10 +155,10 @@ module _ (w h full k : ℕ) (mask sums squares : List ℕ) where
     walkable =
         let a = accepted clear in (
           a .most,
-          omega (arith, a .masked, sites-few w h),
-          a .summed ∙ sym (a .masked),
-          a .squared ∙ sym (a .masked),
-          (λ i l. a .possible i (omega (arith, a .masked)) .spread),
+          omega (arith, a .lent .masked, sites-few w h),
+          a .long .of-sums ∙ sym (a .lent .masked),
+          a .long .of-squares ∙ sym (a .lent .masked),
+          (λ i l. a .possible i (omega (arith, a .lent .masked)) .spread),
         )
 
     pub frames-fit : k * k ≤ 10000
@@ -167,10 +166,10 @@ module _ (w h full k : ℕ) (mask sums squares : List ℕ) where
 
     module _ (count p : ℕ) (n : count ≡ sumTo (walked w h (length mask)) (one mask)) (e : p ≡ spread (length mask) k (seen mask sums) (seen mask squares)) where
       counted : count ≡ sumTo (sitesOf w h) (one mask)
-      counted = n ∙ ap (λ (m : ℕ). sumTo m (one mask)) (walked-whole w h (length mask) (accepted clear .masked))
+      counted = n ∙ ap (λ (m : ℕ). sumTo m (one mask)) (walked-whole w h (length mask) (accepted clear .lent .masked))
 
       numerator : p ≡ spread (sitesOf w h) k (seen mask sums) (seen mask squares)
-      numerator = e ∙ ap (λ (m : ℕ). spread m k (seen mask sums) (seen mask squares)) (accepted clear .masked)
+      numerator = e ∙ ap (λ (m : ℕ). spread m k (seen mask sums) (seen mask squares)) (accepted clear .lent .masked)
 
       rest : refuseIf 14 0 (leb (2 ^ 53) p) ≡ varianceVerdict w h full k mask sums squares
       unfolding varianceVerdict _⨟_

@@ -40,6 +40,7 @@ pub record VarianceFigures : Type 0 where
   pub denominator : ℕ
   pub variance : Float
 
+-- every number 0: what stands beside a refusal
 abbrev pub noVariance : VarianceFigures
 noVariance = record { numerator = 0; denominator = 0; variance = ofBits binary64 0 }
 

@@ -5,7 +5,7 @@ ghost use Prim.Native.Nat.{ℕ, _+_, _*_, _^_, _≤_, _<_};
 ghost use lib.ListN.{length, getD};
 ghost use Rattle.laws.specs.Sum.{sumTo};
 ghost use Rattle.verdict.specs.Verdict.{refuseIf};
-ghost use Rattle.window.specs.Shape.{walked};
+ghost use Rattle.window.specs.Walk.{walked};
 ghost use Rattle.window.specs.View.{seenAt, seen, one};
 ghost use Rattle.stack.specs.Sums.{stackLengths, impossible, impossibleIn, squared, added, spread};
 ghost use Rattle.stack.specs.Walk.{readable};

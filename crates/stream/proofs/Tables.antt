@@ -11,12 +11,12 @@ use Rattle.laws.specs.Sum.{sumTo}
 use Rattle.verdict.specs.Verdict.{_⨟_, refuseIf, refuseFirst}
 use Rattle.verdict.specs.declared.Verdict.{Verdict}
 use Rattle.verdict.specs.declared.Verdict.the-variants.{Clear}
-use Rattle.verdict.proofs.Verdicts.{Test, Tabled, test, testFirst, inTurn, tabled, tabled-none, tabled-then, skipped, then-assoc, then-same, then-clear, then-end, clear-first, unless, clear-unless}
+use Rattle.verdict.proofs.Verdicts.{Test, Tabled, test, inTurn, tabled, tabled-none, tabled-then, skipped, then-assoc, then-same, then-clear, then-end, clear-first, unless, clear-unless}
 use Rattle.window.specs.Shape.{badSides, badScale, sitesOf}
-use Rattle.window.specs.View.{badCode, above, seen, one}
+use Rattle.window.specs.View.{seen, one}
 use Rattle.refusals.specs.Judge.{shapeOf, otherThan, codesOf, samplesOf, maskVerdict, frameVerdict}
 use Rattle.refusals.proofs.Chains.{clear-shape, right-length, clear-length, clear-codes, clear-samples}
-use Rattle.refusals.proofs.Judges.{Framed}
+use Rattle.refusals.proofs.Judges.{codesTest, samplesTest, Framed}
 use Rattle.pair.specs.Pair.{spreadOf, pairSpread, framesVerdict, pairVerdict}
 use Rattle.pair.proofs.Frames.{readable}
 use Rattle.pair.proofs.Promises.{spare}
@@ -74,9 +74,9 @@ scaleTest full = test 2 0 (badScale full)
 module _ (w h full black : ℕ) (mask first second : List ℕ) where
   abbrev pub leftTests : List Test
   leftTests =
-      testFirst 5 (sitesOf w h) (badCode mask)
-      ∷ testFirst 6 (sitesOf w h) (above full (seen mask first))
-      ∷ testFirst 6 (sitesOf w h) (above full (seen mask second))
+      codesTest (sitesOf w h) mask
+      ∷ samplesTest (sitesOf w h) full (seen mask first)
+      ∷ samplesTest (sitesOf w h) full (seen mask second)
       ∷ test 7 0 (ltb (pairSpread w h mask first second .n) 2)
       ∷ test 3 0 (ltb full black)
       ∷ []
@@ -94,7 +94,7 @@ module _ (w h full black : ℕ) (mask first second : List ℕ) where
         ⨟ samplesOf (sitesOf w h) full (seen mask first)
         ⨟ samplesOf (sitesOf w h) full (seen mask second)
         ⨟ refuseIf 7 0 (ltb (pairSpread w h mask first second .n) 2)
-    unfolding framesVerdict frameVerdict maskVerdict shapeOf
+    unfolding framesVerdict maskVerdict shapeOf
     pair-left =
         spare w h full mask first second
         ∙ simp (then-assoc, legal, long (length mask) m, long (length first) f, long (length second) g)

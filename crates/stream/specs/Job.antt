@@ -40,6 +40,7 @@ pub record JobFigures : Type 0 where
   pub dark : ℤ
   pub darkOver : ℕ
 
+-- every number 0: what stands beside a refusal
 abbrev pub noFigures : JobFigures
 noFigures = record { sites = 0; p = 0; q = 0; r = 0; rOver = 0; dark = pos 0; darkOver = 0 }
 

@@ -34,7 +34,7 @@ abbrev pub placeOf : Verdict → ℕ
 placeOf Clear = 0
 placeOf (Refused r) = r .place
 
--- what a call answers or leaves behind: the first where nothing is refused, the second where something is
+-- of two values, the first where nothing is refused, the second where something is
 abbrev pub ifClear : {A : Type 0} → Verdict → A → A → A
 ifClear Clear accepted refused = accepted
 ifClear (Refused r) accepted refused = refused

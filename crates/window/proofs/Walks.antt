@@ -6,7 +6,8 @@ use native.Mathlib.Omega.{arith}
 use lib.Dec.{eqb}
 use borrow.Author.Tests.{eq-eqb, ne-eqb, eqb-true, eqb-false}
 use Rattle.laws.proofs.Cases.{true-or-false}
-use Rattle.window.specs.Shape.{sitesOf, walked}
+use Rattle.window.specs.Shape.{sitesOf}
+use Rattle.window.specs.Walk.{walked}
 use Rattle.window.proofs.Sides.{Sides, some-sites}
 
 -- h rows of w, which a buffer of this length holds

@@ -1,2 +1,3 @@
 pub mod Shape
 pub mod View
+pub mod Walk

@@ -21,7 +21,3 @@ badCount k = eqb k 0 || ltb 100 k
 -- how many sites a window has; sides that no window has make none
 unfoldable pub sitesOf : ℕ → ℕ → ℕ
 sitesOf w h = cond (badSides w h) 0 (h * w)
-
--- the sites of a window that a buffer of this length lets be walked: all, where it has just as many, or none
-unfoldable pub walked : ℕ → ℕ → ℕ → ℕ
-walked w h long = cond (eqb long (sitesOf w h)) (sitesOf w h) 0

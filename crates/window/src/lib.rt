@@ -4,7 +4,8 @@ ghost use Prim.Native.Nat.{_≤_};
 ghost use lib.ListN.{length};
 ghost use Rattle.laws.specs.First.{someTo};
 ghost use Rattle.laws.specs.Sum.{sumTo};
-ghost use Rattle.window.specs.Shape.{badSide, badSides, badScale, badCount, sitesOf, walked};
+ghost use Rattle.window.specs.Shape.{badSide, badSides, badScale, badCount, sitesOf};
+ghost use Rattle.window.specs.Walk.{walked};
 ghost use Rattle.window.specs.View.{codeAbove, seenAt, one};
 
 fn bad_side(side: usize) -> bool

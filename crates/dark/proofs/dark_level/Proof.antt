@@ -3,9 +3,11 @@ use Prim.Native.Nat.{ℕ}
 use mathlib.Core.Path.{_≡_, sym, ap, _∙_}
 use mir.Val.{toZ, ofZ}
 use mir.Syntax.{w64}
+use native.Mathlib.Omega.{arith}
 use borrow.Author.Needs.{needs}
 use Rattle.laws.specs.Sum.{sumTo}
 use Rattle.verdict.specs.declared.Verdict.the-variants as verdict
+use Rattle.window.proofs.Sides.{sites-few}
 use Rattle.window.proofs.Walks.{walked-whole}
 use Rattle.window.specs.View.{seen, one}
 use Rattle.dark.proofs.Levels.{accepted, refused-is, accepted-is}
@@ -34,14 +36,14 @@ enum-told c = search needs
 
 above-black-requires : tie.Need-above-black-requires
 above-black-requires c κs = let a = accepted _ _ _ _ _ _ (clear c) in
-    (a .dark, a .framed ∙ sym (a .masked), a .few)
+    (a .dark, a .lent .framed ∙ sym (a .lent .of .masked), omega (arith, sites-few (Begun c .args .width) (Begun c .args .height), a .lent .of .masked))
 
 returns : tie.Need-returns
 returns c = refused-is _ _ _ _ _ _ _ (sym (c .before .before .before .judge .ensures) ∙ c .before .refusal .given .1)
 
 returns-2 : tie.Need-returns-2
 returns-2 c = let args = Begun (c .before) .args in
-    let whole = accepted _ _ _ _ _ _ (clear (c .before)) .masked in
+    let whole = accepted _ _ _ _ _ _ (clear (c .before)) .lent .of .masked in
     let back : toZ w64 (ofZ w64 (c .above-black .result)) ≡ c .above-black .result = search needs in
     accepted-is _ _ _ _ _ _ (clear (c .before)) _ _
     (back ∙ c .above-black .ensures ∙ ap (λ (n : ℕ). aboveBlack n (args .black-level) (seen (args .mask .now) (args .frame .now)) (one (args .mask .now))) whole)

@@ -3,7 +3,7 @@ use Prim.Native.Nat.{_^_, _≤_, _<_}
 use mathlib.Core.Path.{sym, _∙_}
 use native.Mathlib.Omega.{arith}
 use borrow.Author.Needs.{needs}
-use Rattle.pair.proofs.Calls.{in-bounds, noise-refused, noise-given}
+use Rattle.pair.proofs.Calls.{in-bounds, noise-refused-is, noise-accepted-is}
 use Rattle.pair.proofs.Measures.{was-taken, was-refused}
 use Rattle.pair.proofs.pair_noise.Statement.{statement}
 use Rattle.pair.proofs.pair_noise.Tie as tie
@@ -34,12 +34,12 @@ ratio-requires : tie.Need-ratio-requires
 ratio-requires c κs = search needs
 
 returns : tie.Need-returns
-returns c = noise-refused _ _ _ _ _ _ _ (was-refused _ _ _ (sym (c .before .before .before .measure .ensures) ∙ c .before .refusal .given .1))
+returns c = noise-refused-is _ _ _ _ _ _ _ (was-refused _ _ _ (sym (c .before .before .before .measure .ensures) ∙ c .before .refusal .given .1))
 
 returns-2 : tie.Need-returns-2
 returns-2 c = let s = c .before .before .before .before .before in
     let was = was-taken _ _ _ (sym (s .before .before .measure .ensures) ∙ s .s .given .1) in
-    noise-given _ _ _ _ _ _ _ (was .0) (was .1) _ _ (c .before .before .root-of .ensures) (c .ratio .ensures)
+    noise-accepted-is _ _ _ _ _ _ _ (was .0) (was .1) _ _ (c .before .before .root-of .ensures) (c .ratio .ensures)
 
 pub pair-noise-spec : {M : Type 1} → statement M
 pair-noise-spec =

@@ -4,7 +4,7 @@ use mathlib.Core.Path.{sym, _∙_}
 use native.Mathlib.Omega.{arith}
 use borrow.Author.Needs.{needs}
 use Rattle.laws.proofs.Cases.{times-le}
-use Rattle.pair.proofs.Calls.{in-bounds, variance-refused, variance-given}
+use Rattle.pair.proofs.Calls.{in-bounds, variance-refused-is, variance-accepted-is}
 use Rattle.pair.proofs.Measures.{was-taken, was-refused}
 use Rattle.pair.proofs.pair_variance.Statement.{statement}
 use Rattle.pair.proofs.pair_variance.Tie as tie
@@ -35,11 +35,11 @@ ratio-requires : tie.Need-ratio-requires
 ratio-requires c κs = search needs
 
 returns : tie.Need-returns
-returns c = variance-refused _ _ _ _ _ _ _ (was-refused _ _ _ (sym (c .before .before .before .measure .ensures) ∙ c .before .refusal .given .1))
+returns c = variance-refused-is _ _ _ _ _ _ _ (was-refused _ _ _ (sym (c .before .before .before .measure .ensures) ∙ c .before .refusal .given .1))
 
 returns-2 : tie.Need-returns-2
 returns-2 c = let was = was-taken _ _ _ (sym (c .before .before .before .before .before .measure .ensures) ∙ c .before .before .before .s .given .1) in
-    variance-given _ _ _ _ _ _ _ (was .0) (was .1) _ (c .ratio .ensures)
+    variance-accepted-is _ _ _ _ _ _ _ (was .0) (was .1) _ (c .ratio .ensures)
 
 pub pair-variance-spec : {M : Type 1} → statement M
 pair-variance-spec =

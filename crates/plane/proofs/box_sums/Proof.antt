@@ -4,7 +4,7 @@ use mathlib.Core.Path.{_≡_, sym, ap₂, _∙_}
 use native.Mathlib.Omega.{arith}
 use lib.ListN.{length}
 use borrow.Author.Needs.{needs}
-use Rattle.window.specs.Shape.{walked}
+use Rattle.window.specs.Walk.{walked}
 use Rattle.window.proofs.Walks.{Whole, walked-some}
 use Rattle.plane.proofs.Planes.{sums-told, sums-none}
 use Rattle.plane.proofs.box_sums.Statement.{statement}

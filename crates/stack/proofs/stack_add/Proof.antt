@@ -34,8 +34,8 @@ add-seen-requires c κs = let e = c .before .before in
     let a = known e in
     let s = e .before .before .before .before .before in (
       a .lent .framed ∙ sym (a .lent .of .masked),
-      a .summed ∙ sym (a .lent .of .masked),
-      a .square-summed ∙ sym (a .lent .of .masked),
+      a .long .of-sums ∙ sym (a .lent .of .masked),
+      a .long .of-squares ∙ sym (a .lent .of .masked),
       λ i l. sum-room _ _ _ _ _ _ _ _ a i l (omega (arith, s .before .slice-known .given i)),
       λ i l. square-room _ _ _ _ _ _ _ _ a i l (omega (arith, s .slice-known2 .given i)),
     )
