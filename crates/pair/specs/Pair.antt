@@ -14,7 +14,7 @@ use Rattle.verdict.specs.declared.Verdict.{Verdict}
 use Rattle.verdict.specs.declared.Verdict.the-variants as verdict
 use Rattle.window.specs.Shape.{sitesOf}
 use Rattle.window.specs.View.{one, seen}
-use Rattle.refusals.specs.Judge.{lengthOf, samplesOf, maskVerdict}
+use Rattle.refusals.specs.Judge.{lengthOf, rangeOf, maskVerdict}
 use Rattle.pair.specs.declared.Spread.{Spread}
 
 -- d: second frame minus first at a surveyed site; at any other, both are seen as 0
@@ -57,8 +57,8 @@ figuresOf s = record {
 unfoldable pub framesVerdict : ℕ → ℕ → ℕ → List ℕ → List ℕ → List ℕ → Verdict
 framesVerdict w h full mask first second =
     maskVerdict w h full verdict.Clear mask (lengthOf w h (length first) ⨟ lengthOf w h (length second))
-    ⨟ samplesOf (sitesOf w h) full (seen mask first)
-    ⨟ samplesOf (sitesOf w h) full (seen mask second)
+    ⨟ rangeOf w h full mask first
+    ⨟ rangeOf w h full mask second
 
 -- then fewer than 2 surveyed sites, and P of 2^53 or more
 unfoldable pub pairVerdict : ℕ → ℕ → ℕ → List ℕ → List ℕ → List ℕ → Verdict

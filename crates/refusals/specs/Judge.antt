@@ -30,6 +30,10 @@ codesOf n mask = refuseFirst 5 n (badCode mask)
 abbrev pub samplesOf : ℕ → ℕ → (ℕ → ℕ) → Verdict
 samplesOf n full view = refuseFirst 6 n (above full view)
 
+-- 6, of a frame as it is seen through its mask
+abbrev pub rangeOf : ℕ → ℕ → ℕ → List ℕ → List ℕ → Verdict
+rangeOf w h full mask frame = samplesOf (sitesOf w h) full (seen mask frame)
+
 -- 1 to 5 of a call with a mask, which hands in verdicts of its own: parameters, its 3, and lengths, its 4 of other buffers; Clear for none
 unfoldable pub maskVerdict : ℕ → ℕ → ℕ → Verdict → List ℕ → Verdict → Verdict
 maskVerdict w h full parameters mask lengths =
@@ -43,4 +47,4 @@ maskVerdict w h full parameters mask lengths =
 unfoldable pub frameVerdict : ℕ → ℕ → ℕ → Verdict → List ℕ → List ℕ → Verdict → Verdict
 frameVerdict w h full parameters mask frame lengths =
     maskVerdict w h full parameters mask (lengthOf w h (length frame) ⨟ lengths)
-    ⨟ samplesOf (sitesOf w h) full (seen mask frame)
+    ⨟ rangeOf w h full mask frame
