@@ -9,9 +9,11 @@ use lib.Ieee.{Float, nan, inf, fin, Format, binary64, up, down, round, div, ofIn
 use lib.Ieee.Back.{round-whole}
 use lib.Ieee.Exact.{HasValue}
 use lib.Ieee.Fits.{up-pos, down-pos}
+use lib.Ieee.Positive.{num, value→cross}
 use lib.Ieee.Scale.{round-same}
 use Rattle.exact.specs.Quotient.{quotient}
-use Rattle.exact.proofs.Quotients.{Ranged}
+use Rattle.exact.specs.Bound.{ExactFloat}
+use Rattle.exact.proofs.Quotients.{Ranged, plain-value}
 
 not-zero : (n : ℕ) (d : ℤ) (q : ℕ) → 0 < q → n * up d * 1 ≡ q * down d → n ≡ 0 → ⊥
 not-zero n d q Q h e =
@@ -46,6 +48,13 @@ div-values f (fin false m e) (fin false n d) p q Q h k = by (eqb n 0) (eqb→eq 
 whole : (n : ℕ) → n ≤ 2 ^ 53 → HasValue (ofInt binary64 (pos n)) false n 1
 unfolding ofInt
 whole n h = round-whole binary64 false n h
+
+-- so every whole number up to 2 ^ 53 has an exact float
+pub exact-float : (n : ℕ) → n ≤ 2 ^ 53 → ExactFloat n
+exact-float n h =
+    let x = ofInt binary64 (pos n) in
+    let v = whole n h in
+    record { is-plain = plain-value x n 1 v; same = sym (mul-one (num x)) ∙ value→cross x n 1 v }
 
 pub division : (p q : ℕ) → Ranged p q → div binary64 (ofInt binary64 (pos p)) (ofInt binary64 (pos q)) ≡ quotient p q
 division p q r =

@@ -52,7 +52,7 @@ under t g c n m P C h k =
 small : (p : ℕ) → p ≤ 2 ^ 53 → 2 * (p * 2 ^ 1074) < overflow binary64
 small p h = lt-of-le-of-lt (mul-le-mul-left 2 (mul-le-mul-right (2 ^ 1074) h)) (lit< tt)
 
-plain-value : (x : Float) (a c : ℕ) → HasValue x false a c → T (plain x)
+pub plain-value : (x : Float) (a c : ℕ) → HasValue x false a c → T (plain x)
 plain-value nan a c h = absurd h
 plain-value (inf s) a c h = absurd h
 plain-value (fin true m e) a c h = true≢false (h .0)

@@ -2,9 +2,11 @@
 -- A float x is its whole significand times a power of two; num x / den x is its size as a fraction (0 / 1 where x is no such number).
 use Prim.Native.Nat.{ℕ, _+_, _-_, _*_, _≤_}
 use mathlib.Core.Bool.{Bool, false, not}
+use mathlib.Core.Path.{_≡_}
 use lib.Dec.{T}
-use lib.Ieee.{Float, nan, inf, fin}
+use lib.Ieee.{Float, nan, inf, fin, binary64, ofInt}
 use lib.Ieee.Positive.{num, den}
+use lib.IntN.{pos}
 use Rattle.laws.specs.Signed.{apart}
 
 -- x is a number, finite and not negative
@@ -23,3 +25,8 @@ pub record CloseTo (t : ℕ) (x : Float) (p q : ℕ) : Type 0 where
 pub record NearRoot (x a d : ℕ) : Type 0 where
   pub not-above : (a - d) * (a - d) ≤ x * (d * d)
   pub not-below : x * (d * d) ≤ (a + d) * (a + d)
+
+-- n has an exact float (document 01's words in refusal 14): as an f64 it is a number, finite and not negative, and n itself
+pub record ExactFloat (n : ℕ) : Type 0 where
+  pub is-plain : T (plain (ofInt binary64 (pos n)))
+  pub same : num (ofInt binary64 (pos n)) ≡ n * den (ofInt binary64 (pos n))

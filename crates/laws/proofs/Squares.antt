@@ -3,13 +3,13 @@
 use Prim.Native.Nat.{ℕ, zero, suc, _+_, _-_, _*_, _≤_, _<_}
 use mathlib.Core.Logic.{_⊎_, inl, inr, ⊎-elim}
 use mathlib.Core.Path.{_≡_, refl, sym, ap, _∙_}
-use native.Mathlib.Nat.{mul-add, add-mul, mul-comm, mul-assoc, mul-left-comm, zero-mul, add-zero, mul-pos, le-of-mul-le-mul-left, eq-zero-or-pos, eq-or-lt-of-le}
+use native.Mathlib.Nat.{mul-add, add-mul, mul-comm, mul-assoc, mul-left-comm, zero-mul, mul-zero, add-zero, mul-pos, mul-le-mul, mul-le-mul-left, le-of-mul-le-mul-left, eq-zero-or-pos, eq-or-lt-of-le}
 use native.Mathlib.Omega.{arith}
 use Rattle.laws.specs.Signed.{_⊖_, apart}
 use Rattle.laws.specs.Sum.{sumTo}
 use Rattle.laws.proofs.Cases.{lt-or-ge}
 use Rattle.laws.proofs.Signeds.{⊖-eq, ⊖-cross}
-use Rattle.laws.proofs.Sums.{sum-zero, zero-terms}
+use Rattle.laws.proofs.Sums.{sum-zero, sum-scaled, zero-terms}
 
 abbrev pub square : ℕ → ℕ
 square k = k * k
@@ -148,6 +148,21 @@ module _ (one x y : ℕ → ℕ) (counted : (i : ℕ) → Counted (one i) (x i) 
   -- (sum of d)² ≤ n × (sum of d²)
   pub schwarz : (N : ℕ) → square (apart (sumTo N y) (sumTo N x)) ≤ sumTo N one * sumTo N (squares x y)
   schwarz N = omega (arith, spread N)
+
+  -- where no difference is above b, the excess is at most (n × b)²
+  pub excess-most : (N b : ℕ) → ((i : ℕ) → i < N → apart (y i) (x i) ≤ b) → excess one x y N ≤ square (sumTo N one * b)
+  excess-most N b h =
+      let n = sumTo N one in
+      let total = sum-scaled N (square b) one (squares x y) (λ i l. term i (h i l)) in
+      let same : n * (square b * n) ≡ square (n * b) = simp (mul-assoc, mul-comm, mul-left-comm) in
+      omega (arith, mul-le-mul-left n total, same)
+    where
+      term : (i : ℕ) → apart (y i) (x i) ≤ b → squares x y i ≤ square b * one i
+      term i l =
+          ⊎-elim
+          (λ (a : one i ≡ 1). rw a (omega (arith, mul-le-mul l l)))
+          (λ k. rw (k .0, k .1, k .2) (omega (arith, mul-zero (square b))))
+          (counted i)
 
   -- the excess is 0 only where all differences are equal
   pub none-equal : (N : ℕ) → excess one x y N ≡ 0 → AllEqual one x y N

@@ -60,6 +60,10 @@ pub clear-unless : (k p : ℕ) {b : Bool} → b ≡ false → refuseIf k p b ≡
 unfolding refuseIf
 clear-unless k p e = rw e
 
+-- a test that never applies where all before it is clear changes no verdict
+pub then-spare : (a : Verdict) (k p : ℕ) {b : Bool} → (a ≡ Clear → b ≡ false) → a ⨟ refuseIf k p b ≡ a
+then-spare a k p f = then-same a (λ e. clear-unless k p (f e)) ∙ then-end a
+
 -- a search whose number is not given found nothing
 pub not-given : (k n : ℕ) (test : ℕ → Bool) (v : Verdict) → (numberOf (refuseFirst k n test ⨟ v) ≡ k → ⊥) → refuseFirst k n test ⨟ v ≡ v
 unfolding refuseFirst refuseIf _⨟_
