@@ -53,12 +53,13 @@ module _ (w h full : ℕ) (mask first second : List ℕ) where
   demand-3 accepted =
       let answers = pair.both-answer w h full mask first second accepted in
       let is = pair.whole-numbers w h full mask first second _ _ _ (answers .0) in
+      let limits = pair.in-limits w h full mask first second _ _ _ (answers .0) in
       let counted = pair.counts w h full mask first second _ _ _ (answers .1) in
       let close = pair.noise-close w h full mask first second _ _ _ (answers .1) in
       record {
         counted = counted;
         exact = rw (counted .0) (pair.signed w h full mask first second _ _ _ (answers .0), is .1);
-        room = (is .2, is .3);
+        room = (limits .1, limits .2);
         zero = pair.flat w h full mask first second _ _ _ (answers .0);
         variance-near = pair.near w h full mask first second _ _ _ (answers .0);
         variance-zero = pair.none w h full mask first second _ _ _ (answers .0);

@@ -3,24 +3,25 @@ use Prim.Native.Nat.{ℕ, _*_, _^_, _≤_, _<_}
 use mathlib.Core.List.{List}
 use mathlib.Core.Path.{_≡_, refl, sym, ap, _∙_}
 use native.Mathlib.Omega.{arith}
-use lib.Dec.{T, ltb}
+use lib.Dec.{T, leb}
 use lib.Ieee.{Float, binary64, ofBits}
 use lib.Ieee.Positive.{num, den}
 use lib.IntN.{pos}
 use lib.ListN.{length, getD}
+use borrow.Author.Tests.{lt-leb}
 use Rattle.laws.specs.Sum.{sumTo}
 use Rattle.laws.proofs.Cases.{times-le}
 use Rattle.laws.proofs.Signeds.{⊖-self}
 use Rattle.laws.proofs.Sole.{Sole, sole}
 use Rattle.exact.specs.Root.{root, IsRoot}
 use Rattle.exact.specs.Quotient.{quotient}
-use Rattle.exact.specs.Bound.{plain, CloseTo, NearRoot}
+use Rattle.exact.specs.Bound.{plain, ExactFloat, CloseTo, NearRoot}
 use Rattle.exact.proofs.Roots.{root-is}
 use Rattle.exact.proofs.Quotients.{quotient-zero, zero-bits}
+use Rattle.exact.proofs.Division.{exact-float}
 use Rattle.exact.proofs.Noises.{variance-ranged, variance-near, noise-near, noise-plain, noise-zero}
 use Rattle.verdict.specs.Verdict.{_⨟_, refuseIf}
-use Rattle.verdict.specs.declared.Verdict.the-variants as verdict
-use Rattle.verdict.proofs.Verdicts.{Tabled, Refuses, refuses, zero-clear, then-same}
+use Rattle.verdict.proofs.Verdicts.{Tabled, Refuses, refuses, zero-clear, then-spare}
 use Rattle.verdict.proofs.Answers.{paper-told}
 use Rattle.window.specs.Shape.{sitesOf}
 use Rattle.window.specs.View.{seen, one}
@@ -30,8 +31,7 @@ use Rattle.pair.specs.Answers.{noVariance, varianceAnswer, variancePaper
 use Rattle.pair.specs.declared.Variance.the-variants as variance
 use Rattle.pair.specs.declared.Noise.the-variants as noise
 use Rattle.pair.proofs.Spreads.{SameDifference, whole, zero-same, same-zero}
-use Rattle.pair.proofs.Frames.{readable}
-use Rattle.pair.proofs.Measures.{tests, table, below-53, measured, last-exact}
+use Rattle.pair.proofs.Measures.{tests, table, accepted, measured}
 use Rattle.pair.proofs.Calls.{variance-was, noise-was}
 
 module _ (w h full : ℕ) (mask first second : List ℕ) where
@@ -39,7 +39,7 @@ module _ (w h full : ℕ) (mask first second : List ℕ) where
   pub only : Sole (varianceAnswer w h full mask first second) × Sole (noiseAnswer w h full mask first second)
   only = (sole _, sole _)
 
-  -- given: both calls refuse exactly as document 01 tables it, in that order (`tests` has the table)
+  -- given: both calls refuse exactly as document 01 tables it, 14 aside (document 02, h), in that order (`tests` has the table)
   pub given : Tabled (pairVerdict w h full mask first second) (tests w h full mask first second)
   given = table w h full mask first second
 
@@ -55,14 +55,10 @@ module _ (w h full : ℕ) (mask first second : List ℕ) where
     refuses (pairVerdict w h full mask first second) given refl (λ r e. rw e),
   )
 
-  -- 14 is never given: P stays below 2^53 for any two frames that 1 to 6 let pass, and no answer changes without the test
-  pub in-limits : framesVerdict w h full mask first second ≡ verdict.Clear → pairSpread w h mask first second .p < 2 ^ 53
-  in-limits e = below-53 w h full mask first second (readable w h full mask first second e)
-
-  pub spare : pairVerdict w h full mask first second
-      ≡ framesVerdict w h full mask first second ⨟ refuseIf 7 0 (ltb (pairSpread w h mask first second .n) 2)
-  unfolding pairVerdict
-  spare = then-same (framesVerdict w h full mask first second) (λ e. last-exact (pairSpread w h mask first second) (in-limits e))
+  -- spare: with document 01's 14, where P is 2^53 or more, put last, every verdict is the same (document 02, h)
+  pub spare : pairVerdict w h full mask first second ⨟ refuseIf 14 0 (leb (2 ^ 53) (pairSpread w h mask first second .p))
+      ≡ pairVerdict w h full mask first second
+  spare = then-spare (pairVerdict w h full mask first second) 14 0 (λ e. lt-leb (2 ^ 53) (pairSpread w h mask first second .p) (accepted e .exact))
 
   -- the paper's numbers are those of the answers
   pub paper-is : (variancePaperOf (varianceAnswer w h full mask first second) ≡ variancePaper w h full mask first second)
@@ -94,15 +90,21 @@ module _ (w h full : ℕ) (mask first second : List ℕ) where
   unfolding spreadOf
   counts x r n e = let was = noise-was x r n e in (was .3, rw (was .3) (was .0 .two), rw (was .3) (was .0 .few))
 
-  -- of an accepted variance: P is that of the definition, of which r is the root too, and Q is 2 × n²; neither has reached 2^53
+  -- of an accepted variance: P is that of the definition, of which r is the root too, and Q is 2 × n²
   pub whole-numbers : (p q : ℕ) (x : Float) → varianceAnswer w h full mask first second ≡ variance.Figures p q x
       → (p ≡ pairSpread w h mask first second .p) × (q ≡ 2 * (pairSpread w h mask first second .n * pairSpread w h mask first second .n))
-      × (p < 2 ^ 53) × (q < 2 ^ 53)
-  whole-numbers p q x e =
+  whole-numbers p q x e = let was = variance-was p q x e in (was .1, was .2)
+
+  -- in-limits: P is at most (n × full scale)², so below 2^53, and so is Q; both are exact as floats
+  pub in-limits : (p q : ℕ) (x : Float) → varianceAnswer w h full mask first second ≡ variance.Figures p q x
+      → let n = pairSpread w h mask first second .n in
+      (p ≤ n * full * (n * full)) × (p < 2 ^ 53) × (q < 2 ^ 53) × ExactFloat p × ExactFloat q
+  in-limits p q x e =
       let was = variance-was p q x e in
       let n = pairSpread w h mask first second .n in
       let square : n * n ≤ 16384 * 16384 = times-le n n 16384 16384 (was .0 .few) (was .0 .few) in
-      (was .1, was .2, rw (was .1) (was .0 .exact), rw (was .2) (omega (arith, square)))
+      let below : (p < 2 ^ 53) × (q < 2 ^ 53) = rw (was .1, was .2) (was .0 .exact, omega (arith, square)) in
+      (rw (was .1) (was .0 .most), below .0, below .1, exact-float p (omega (arith, below .0)), exact-float q (omega (arith, below .1)))
 
   -- P is n × (sum of d²) − (sum of d)² over signed differences
   pub signed : (p q : ℕ) (x : Float) → varianceAnswer w h full mask first second ≡ variance.Figures p q x

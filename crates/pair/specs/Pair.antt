@@ -1,7 +1,7 @@
 -- Document 01, "Pair noise": n, P, Q and both figures of two frames, and the refusals of both calls.
-use Prim.Native.Nat.{ℕ, _*_, _^_}
+use Prim.Native.Nat.{ℕ, _*_}
 use mathlib.Core.List.{List}
-use lib.Dec.{leb, ltb}
+use lib.Dec.{ltb}
 use lib.Ieee.{Float}
 use lib.IntN.{ℤ, pos, natAbs, _-ℤ_, _*ℤ_}
 use lib.ListN.{length}
@@ -60,9 +60,8 @@ framesVerdict w h full mask first second =
     ⨟ rangeOf w h full mask first
     ⨟ rangeOf w h full mask second
 
--- then fewer than 2 surveyed sites, and P of 2^53 or more
+-- then fewer than 2 surveyed sites; there is no 14 (document 02, h)
 unfoldable pub pairVerdict : ℕ → ℕ → ℕ → List ℕ → List ℕ → List ℕ → Verdict
 pairVerdict w h full mask first second =
     framesVerdict w h full mask first second
     ⨟ refuseIf 7 0 (ltb (pairSpread w h mask first second .n) 2)
-    ⨟ refuseIf 14 0 (leb (2 ^ 53) (pairSpread w h mask first second .p))

@@ -136,9 +136,7 @@ fn measure(
         return Measurement::Refused(refusal);
     }
     let s = spread_of(mask, first, second);
-    let few = verdict::refuse_if(7, 0, s.n < 2);
-    let large = verdict::refuse_if(14, 0, exact::LOSSLESS <= s.p);
-    match verdict::then(few, large) {
+    match verdict::refuse_if(7, 0, s.n < 2) {
         Verdict::Refused(refusal) => Measurement::Refused(refusal),
         Verdict::Clear => Measurement::Taken(s),
     }

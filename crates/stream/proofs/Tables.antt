@@ -19,7 +19,6 @@ use Rattle.refusals.proofs.Chains.{clear-shape, right-length, clear-length, cle
 use Rattle.refusals.proofs.Judges.{codesTest, samplesTest, Framed}
 use Rattle.pair.specs.Pair.{spreadOf, pairSpread, framesVerdict, pairVerdict}
 use Rattle.pair.proofs.Frames.{readable}
-use Rattle.pair.proofs.Promises.{spare}
 use Rattle.dark.specs.Dark.{darkVerdict}
 use Rattle.stream.specs.Fields.{Field, past, wordAt, fieldAt, fieldsAt, pastAll}
 use Rattle.stream.specs.Stream.{sideFields, bodyFields, wideSides, faultsOf}
@@ -94,10 +93,8 @@ module _ (w h full black : ℕ) (mask first second : List ℕ) where
         ⨟ samplesOf (sitesOf w h) full (seen mask first)
         ⨟ samplesOf (sitesOf w h) full (seen mask second)
         ⨟ refuseIf 7 0 (ltb (pairSpread w h mask first second .n) 2)
-    unfolding framesVerdict maskVerdict shapeOf
-    pair-left =
-        spare w h full mask first second
-        ∙ simp (then-assoc, legal, long (length mask) m, long (length first) f, long (length second) g)
+    unfolding pairVerdict framesVerdict maskVerdict shapeOf
+    pair-left = simp (then-assoc, legal, long (length mask) m, long (length first) f, long (length second) g)
 
     -- a frame that the pair accepts leaves the dark level its own 3
     own : {parameters : Verdict} → Framed w h full mask first → frameVerdict w h full parameters mask first Clear ≡ parameters
@@ -117,7 +114,7 @@ module _ (w h full black : ℕ) (mask first second : List ℕ) where
     unfolding pairVerdict darkVerdict spreadOf
     dark-left e =
         let frames = then-clear _ _ e in
-        let two = ltb-false (sumTo (sitesOf w h) (one mask)) 2 (unless 7 0 _ (then-clear _ _ (frames .1) .0)) in
+        let two = ltb-false (sumTo (sitesOf w h) (one mask)) 2 (unless 7 0 _ (frames .1)) in
         let some = clear-unless 7 0 (ne-eqb (sumTo (sitesOf w h) (one mask)) 0 (λ z. omega arith)) in
         ap₂ (λ (a b : Verdict). a ⨟ b) (own (readable w h full mask first second (frames .0) .of-first)) some ∙ then-end _
 

@@ -1,8 +1,7 @@
--- `measure` is right because 1 to 6 are judged before the walk, 7 and 14 after it, and that is the definition's order.
+-- `measure` is right because 1 to 6 are judged before the walk, 7 after it, and that is the definition's order.
 use mathlib.Core.Path.{sym, _∙_}
 use borrow.Author.Needs.{needs}
-use Rattle.verdict.proofs.Verdicts.{then-of}
-use Rattle.pair.proofs.Measures.{lent, frames-refused, last-refused, last-clear}
+use Rattle.pair.proofs.Measures.{lent, frames-refused, few-refused, enough-clear}
 use Rattle.pair.proofs.measure.Statement.{statement}
 use Rattle.pair.proofs.measure.Tie as tie
 
@@ -24,12 +23,6 @@ spread-of-requires c κs = lent _ _ _ _ _ _ (sym (c .before .before .judge .ensu
 refuse-if-requires : tie.Need-refuse-if-requires
 refuse-if-requires c κs = search needs
 
-refuse-if-requires-2 : tie.Need-refuse-if-requires-2
-refuse-if-requires-2 c κs = search needs
-
-then-requires : tie.Need-then-requires
-then-requires c κs = search needs
-
 enum-known-refusal : tie.Need-enum-known-refusal
 enum-known-refusal c = search needs
 
@@ -37,16 +30,16 @@ enum-told-2 : tie.Need-enum-told-2
 enum-told-2 c = search needs
 
 returns-2 : tie.Need-returns-2
-returns-2 c = let seen = c .before .before .before .before .before .before .before .before in
+returns-2 c = let seen = c .before .before .before .before .before in
     let judged = seen .before in
-    last-refused _ _ _ _ _ _ _ (sym (judged .before .before .judge .ensures) ∙ judged .enum-told .given .1) (seen .spread-of .ensures) _
-    (sym (then-of (c .before .before .before .then .ensures) (c .before .before .before .before .before .before .refuse-if .ensures) (c .before .before .before .before .refuse-if2 .ensures)) ∙ c .before .refusal .given .1)
+    few-refused _ _ _ _ _ _ _ (sym (judged .before .before .judge .ensures) ∙ judged .enum-told .given .1) (seen .spread-of .ensures) _
+    (sym (c .before .before .before .refuse-if .ensures) ∙ c .before .refusal .given .1)
 
 returns-3 : tie.Need-returns-3
-returns-3 c = let seen = c .before .before .before .before .before .before .before in
+returns-3 c = let seen = c .before .before .before .before in
     let judged = seen .before in
-    last-clear _ _ _ _ _ _ _ (sym (judged .before .before .judge .ensures) ∙ judged .enum-told .given .1) (seen .spread-of .ensures)
-    (sym (then-of (c .before .before .then .ensures) (c .before .before .before .before .before .refuse-if .ensures) (c .before .before .before .refuse-if2 .ensures)) ∙ c .enum-told2 .given .1)
+    enough-clear _ _ _ _ _ _ _ (sym (judged .before .before .judge .ensures) ∙ judged .enum-told .given .1) (seen .spread-of .ensures)
+    (sym (c .before .before .refuse-if .ensures) ∙ c .enum-told2 .given .1)
 
 pub measure-spec : {M : Type 1} → statement M
 measure-spec =
@@ -58,8 +51,6 @@ measure-spec =
     enum-told
     spread-of-requires
     refuse-if-requires
-    refuse-if-requires-2
-    then-requires
     enum-known-refusal
     enum-told-2
     returns-2
