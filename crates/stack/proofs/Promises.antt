@@ -1,10 +1,11 @@
 -- What is promised of `stack_add` and `stack_variance`, for any sides, full scale, frame count and buffers, and of runs of frames.
 use Prim.Native.Nat.{ℕ, _*_, _^_, _≤_, _<_}
-use mathlib.Core.Bool.{true, false}
+use mathlib.Core.Bool.{true}
 use mathlib.Core.List.{List, [], _∷_}
 use mathlib.Core.Path.{_≡_, refl, sym, ap, _∙_}
 use native.Mathlib.Nat.{mul-pos}
 use native.Mathlib.Omega.{arith}
+use lib.Dec.{leb}
 use lib.Ieee.{Float}
 use lib.ListN.{length, getD, replicate, length-replicate}
 use borrow.Author.Tests.{lt-leb}
@@ -12,26 +13,25 @@ use Rattle.laws.specs.Sum.{sumTo}
 use Rattle.laws.proofs.Tables.{getD-tabulate}
 use Rattle.laws.proofs.Sole.{Sole, sole}
 use Rattle.exact.specs.Quotient.{floatZero}
-use Rattle.exact.specs.Bound.{CloseTo}
+use Rattle.exact.specs.Bound.{ExactFloat, CloseTo}
 use Rattle.exact.proofs.Quotients.{quotient-near, quotient-zero}
-use Rattle.verdict.specs.Verdict.{refuseIf, ifClear}
+use Rattle.exact.proofs.Division.{exact-float}
+use Rattle.verdict.specs.Verdict.{_⨟_, refuseIf, ifClear}
 use Rattle.verdict.specs.declared.Refusal.{Refusal}
 use Rattle.verdict.specs.declared.Verdict.{Verdict}
 use Rattle.verdict.specs.declared.Verdict.the-variants as verdict
-use Rattle.verdict.proofs.Verdicts.{Tabled, Refuses, refuses, then-same, then-clear, then-end}
+use Rattle.verdict.proofs.Verdicts.{Tabled, Refuses, refuses, then-spare}
 use Rattle.verdict.proofs.Answers.{paper-told}
-use Rattle.window.specs.Shape.{badScale, sitesOf}
+use Rattle.window.specs.Shape.{sitesOf}
 use Rattle.window.specs.View.{surveyed, seen, one}
-use Rattle.window.proofs.Sides.{scale, sites-few}
 use Rattle.window.proofs.Views.{Agree, same-view, seen-is, seen-in, seen-out}
 use Rattle.refusals.specs.Judge.{frameVerdict}
 use Rattle.refusals.proofs.Judges.{Masked}
-use Rattle.stack.specs.Sums.{impossibleIn, squared, added, spread}
+use Rattle.stack.specs.Sums.{squared, added, spread}
 use Rattle.stack.specs.Add.{addVerdict, addAnswer, addPaperOf, addPaper, addSums, addSquares}
-use Rattle.stack.specs.Variance.{sumsVerdict, varianceVerdict, noVariance, varianceAnswer, variancePaperOf, variancePaper}
+use Rattle.stack.specs.Variance.{varianceVerdict, noVariance, varianceAnswer, variancePaperOf, variancePaper}
 use Rattle.stack.specs.Run.{Stack, offered, run, runVerdict, overFrames}
 use Rattle.stack.specs.declared.Variance.the-variants.{Figures}
-use Rattle.stack.proofs.Sites.{all-possible}
 use Rattle.stack.proofs.Turns.{added-same, added-keeps}
 use Rattle.stack.proofs.Adds as adds
 use Rattle.stack.proofs.Variances as variances
@@ -106,7 +106,7 @@ module _ (w h full k : ℕ) (mask sums squares : List ℕ) where
   unfolding varianceAnswer variancePaper
   variance-paper-is = paper-told variancePaperOf (varianceVerdict w h full k mask sums squares) refl (λ r. refl)
 
-  -- given: 1 to 5, 7, 11 and 14 exactly as document 01 tables them, in that order (`Variances.tests` has the table)
+  -- given: 1 to 5, 7 and 11 exactly as document 01 tables them, in that order (`Variances.tests` has the table)
   pub variance-given : Tabled (varianceVerdict w h full k mask sums squares) (variances.tests w h full k mask sums squares)
   variance-given = variances.table w h full k mask sums squares
 
@@ -119,35 +119,37 @@ module _ (w h full k : ℕ) (mask sums squares : List ℕ) where
   -- blind: what the sums hold at unsurveyed sites changes nothing
   pub variance-blind : (sums′ squares′ : List ℕ) → Agree mask sums sums′ → Agree mask squares squares′
       → varianceAnswer w h full k mask sums squares ≡ varianceAnswer w h full k mask sums′ squares′
-  unfolding varianceAnswer varianceVerdict sumsVerdict
+  unfolding varianceAnswer varianceVerdict
   variance-blind sums′ squares′ s q = rw (s .long, q .long, same-view s, same-view q)
 
-  -- within the limits, sums that 11 does not refuse have no s² above its k × q, and a numerator below 2 ^ 53
-  pub numerator-exact : badScale full ≡ false → k ≤ 100 → impossibleIn (sitesOf w h) full k (seen mask sums) (seen mask squares) ≡ false
-      → ((i : ℕ) → i < sitesOf w h → seen mask sums i * seen mask sums i ≤ k * seen mask squares i)
-      × (spread (sitesOf w h) k (seen mask sums) (seen mask squares) < 2 ^ 53)
-  numerator-exact legal most e =
-      let possible = all-possible (sitesOf w h) full k (seen mask sums) (seen mask squares) e in (
-        (λ i l. possible i l .spread),
-        variances.spread-exact (sitesOf w h) full k (seen mask sums) (seen mask squares) (sites-few w h) (scale full legal .high) most possible,
-      )
+  -- spare: with document 01's 14, where the numerator is 2^53 or more, put last, every verdict is the same (document 02, h)
+  pub variance-spare : varianceVerdict w h full k mask sums squares ⨟ refuseIf 14 0 (leb (2 ^ 53) (spread (sitesOf w h) k (seen mask sums) (seen mask squares)))
+      ≡ varianceVerdict w h full k mask sums squares
+  variance-spare =
+      then-spare (varianceVerdict w h full k mask sums squares) 14 0 (λ e.
+      lt-leb (2 ^ 53) (spread (sitesOf w h) k (seen mask sums) (seen mask squares)) (variances.exact w h full k mask sums squares (variances.accepted w h full k mask sums squares e)))
 
-  -- of an accepted variance: the float is within one part in 2^52 of the fraction
+  -- of an accepted variance: no s² is above its k × q, so no difference of the numerator is cut off at 0
+  pub variance-whole : (p q : ℕ) (x : Float) → varianceAnswer w h full k mask sums squares ≡ Figures p q x
+      → (i : ℕ) → i < sitesOf w h → seen mask sums i * seen mask sums i ≤ k * seen mask squares i
+  variance-whole p q x e i l = variances.answer-is w h full k mask sums squares p q x e .0 .possible i l .spread
+
+  -- in-limits: the numerator is at most n × (k × full scale)², so below 2^53, and so is the denominator; both are exact as floats
+  pub variance-in-limits : (p q : ℕ) (x : Float) → varianceAnswer w h full k mask sums squares ≡ Figures p q x
+      → let n = sumTo (sitesOf w h) (one mask) in
+      (p ≤ n * (k * full * (k * full))) × (p < 2 ^ 53) × (q < 2 ^ 53) × ExactFloat p × ExactFloat q
+  variance-in-limits p q x e =
+      let is = variances.answer-is w h full k mask sums squares p q x e in
+      let most = variances.spread-most (sitesOf w h) full k mask sums squares (is .0 .possible) in
+      let below : (p < 2 ^ 53) × (q < 2 ^ 53) =
+      rw (is .1, is .2) (variances.exact w h full k mask sums squares (is .0), omega (arith, variances.denominator-fits w h full k mask sums squares (is .0))) in
+      (rw (is .1) most, below .0, below .1, exact-float p (omega (arith, below .0)), exact-float q (omega (arith, below .1)))
+
+  -- the float is within one part in 2^52 of the fraction
   pub variance-near : (p q : ℕ) (x : Float) → varianceAnswer w h full k mask sums squares ≡ Figures p q x → CloseTo (2 ^ 52) x p q
-  unfolding varianceVerdict
   variance-near p q x e =
       let is = variances.answer-is w h full k mask sums squares p q x e in
-      rw (is .3, is .1, is .2) (quotient-near _ _ (variances.ranged w h full k mask sums squares (variances.accepted w h full k mask sums squares (then-clear _ _ (is .0) .0))))
-
-  -- so 14 is never given: without its test the verdict is the same
-  pub never-inexact : varianceVerdict w h full k mask sums squares ≡ sumsVerdict w h full k mask sums squares
-  unfolding varianceVerdict refuseIf
-  never-inexact =
-      then-same (sumsVerdict w h full k mask sums squares) (λ clear.
-      let a = variances.accepted w h full k mask sums squares clear in
-      rw (lt-leb (2 ^ 53) (spread (sitesOf w h) k (seen mask sums) (seen mask squares))
-      (variances.exact w h full k mask sums squares a)))
-      ∙ then-end (sumsVerdict w h full k mask sums squares)
+      rw (is .3, is .1, is .2) (quotient-near _ _ (variances.ranged w h full k mask sums squares (is .0)))
 
 -- ---- runs of frames, from zero sums, with one window, full scale and mask
 module _ (w h full : ℕ) (mask : List ℕ) where

@@ -1,5 +1,5 @@
 -- Runs of frames from zero sums: what the sums are, why every run of frames in range is accepted, and why no order matters.
-use Prim.Native.Nat.{ℕ, zero, suc, _+_, _-_, _*_, _^_, _≤_, _<_}
+use Prim.Native.Nat.{ℕ, zero, suc, _+_, _-_, _*_, _≤_, _<_}
 use mathlib.Core.Bool.{false}
 use mathlib.Core.List.{List, [], _∷_, List·Permᴰ, List·Permᴰ·nil, List·Permᴰ·cons, List·Permᴰ·swap, List·Permᴰ·trans}
 use mathlib.Core.Logic.{⊎-elim}
@@ -8,7 +8,7 @@ use native.Mathlib.Nat.{suc-mul, zero-mul, mul-assoc, mul-mul-mul-comm}
 use native.Mathlib.Numerals.{add-one}
 use native.Mathlib.Omega.{arith}
 use lib.ListN.{length, getD, replicate}
-use borrow.Author.Tests.{le-ltb, ne-eqb, lt-leb, eqb-true, eqb-false}
+use borrow.Author.Tests.{le-ltb, ne-eqb, eqb-true, eqb-false}
 use Rattle.laws.specs.Sum.{sumTo}
 use Rattle.laws.specs.Table.{tabulate}
 use Rattle.laws.proofs.Cases.{true-or-false}
@@ -20,16 +20,14 @@ use Rattle.verdict.specs.declared.Verdict.the-variants as verdict
 use Rattle.verdict.proofs.Verdicts.{then-clear, clear-then, clear-unless}
 use Rattle.window.specs.Shape.{badCount, sitesOf}
 use Rattle.window.specs.View.{surveyed, seen, one}
-use Rattle.window.proofs.Sides.{scale, sites-few}
 use Rattle.window.proofs.Views.{seen-is, seen-in, seen-out}
 use Rattle.refusals.proofs.Judges.{Masked, clear-mask, clear-frame}
 use Rattle.stack.specs.Sums.{stackLengths, impossibleAt, impossibleIn, squared, added, spread}
 use Rattle.stack.specs.Add.{addVerdict, addSums, addSquares}
-use Rattle.stack.specs.Variance.{tooFew, sumsVerdict, varianceVerdict}
+use Rattle.stack.specs.Variance.{tooFew, varianceVerdict}
 use Rattle.stack.specs.Run.{Stack, offered, run, runVerdict, overFrames}
 use Rattle.stack.proofs.Sites.{clear-lengths, Possible, is-possible, possible-none, possible-more}
 use Rattle.stack.proofs.Adds as adds
-use Rattle.stack.proofs.Variances as variances
 
 -- ---- sums over frames
 module _ {g g′ : List ℕ → ℕ} where
@@ -232,19 +230,13 @@ module _ (w h full : ℕ) (mask : List ℕ) where
   pub variance-clear : Masked w h full mask → (fs : List (List ℕ)) → AllInRange (sitesOf w h) full mask fs → 2 ≤ length fs → length fs ≤ 100
       → 0 < sumTo (sitesOf w h) (one mask)
       → varianceVerdict w h full (length fs) mask (stackOf fs .sums) (stackOf fs .squares) ≡ verdict.Clear
-  unfolding varianceVerdict sumsVerdict badCount tooFew
+  unfolding varianceVerdict badCount tooFew
   variance-clear a fs r least most some =
       clear-then
-      (clear-then
       (clear-mask w h full mask a (clear-unless 3 0 (rw (ne-eqb (length fs) 0 (λ e. omega arith)) (le-ltb 100 (length fs) most))) (stack-long fs))
       (clear-then
       (clear-unless 7 0 (rw (ne-eqb (sumTo (sitesOf w h) (one mask)) 0 (λ e. omega arith)) (le-ltb (length fs) 2 least)))
-      (clear-unless 11 0 (possible-in fs r))))
-      (clear-unless 14 0 (rw run-spread (lt-leb (2 ^ 53) (spread (sitesOf w h) (length fs) (sumAt mask fs) (squareAt mask fs)) exact)))
-    where
-      exact : spread (sitesOf w h) (length fs) (sumAt mask fs) (squareAt mask fs) < 2 ^ 53
-      exact =
-          variances.spread-exact (sitesOf w h) full (length fs) (sumAt mask fs) (squareAt mask fs) (sites-few w h) (scale full (a .scaled) .high) most (possible-at fs r)
+      (clear-unless 11 0 (possible-in fs r)))
 
 -- k equal samples p have k × (k × p²) = (k × p)²
 equal-none : (k p : ℕ) → k * (k * (p * p)) - k * p * (k * p) ≡ 0

@@ -9,7 +9,7 @@ ghost use Rattle.window.specs.Walk.{walked};
 ghost use Rattle.window.specs.View.{seenAt, seen, one};
 ghost use Rattle.stack.specs.Sums.{stackLengths, impossible, impossibleIn, squared, added, spread};
 ghost use Rattle.stack.specs.Walk.{readable};
-ghost use Rattle.stack.specs.Variance.{tooFew, sumsVerdict, varianceAnswer, variancePaperOf, variancePaper};
+ghost use Rattle.stack.specs.Variance.{tooFew, varianceVerdict, varianceAnswer, variancePaperOf, variancePaper};
 ghost use Rattle.stack.specs.Add.{addVerdict, addAnswer, addPaperOf, addPaper, addSums, addSquares};
 use verdict::Refusal;
 use verdict::Verdict;
@@ -202,7 +202,7 @@ fn judge_variance(
     count: u64,
 ) -> Verdict
     requires { ⌜ count ≡ sumTo (walked width height (length (now mask))) (one (now mask)) ⌝ }
-    ensures { λ r. ⌜ r ≡ sumsVerdict width height «full_scale» frames (now (mask .entry)) (now (sums .entry)) (now (squares .entry)) ⌝ }
+    ensures { λ r. ⌜ r ≡ varianceVerdict width height «full_scale» frames (now (mask .entry)) (now (sums .entry)) (now (squares .entry)) ⌝ }
 {
     let bad = verdict::refuse_if(3, 0, window::bad_count(frames));
     let lengths = stack_lengths(width, height, sums.len(), squares.len());
@@ -226,7 +226,7 @@ pub fn stack_variance(
     ensures paper { λ r. ⌜ variancePaperOf r ≡ variancePaper width height «full_scale» frames (now (mask .entry)) (now (sums .entry)) (now (squares .entry)) ⌝ }
 {
     let count = window::surveyed(width, height, mask);
-    let lent = judge_variance(
+    match judge_variance(
         width,
         height,
         full_scale,
@@ -235,14 +235,10 @@ pub fn stack_variance(
         sums,
         squares,
         count,
-    );
-    if let Verdict::Refused(refusal) = lent {
-        return Variance::Refused(refusal);
-    }
-    let numerator = spread(frames, mask, sums, squares);
-    match verdict::refuse_if(14, 0, exact::LOSSLESS <= numerator) {
+    ) {
         Verdict::Refused(refusal) => Variance::Refused(refusal),
         Verdict::Clear => {
+            let numerator = spread(frames, mask, sums, squares);
             let denominator = count * (frames * frames);
             Variance::Figures(numerator, denominator, exact::ratio(numerator, denominator))
         }
