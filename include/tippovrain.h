@@ -80,7 +80,7 @@
  *   10   the Gr total of a colour ratio is not above 0
  *   11   a stack's sums cannot come from its frame count
  *   12   a frame is offered to a stack of 100
- *   14   the variance numerator is 2^53 or more
+ *   14   no call gives this number today; it is kept for photon transfer: numerator or denominator is 2^53 or more
  *   20   a stream ends inside a field or before it
  *   21   a field of a stream has another tag than the next due
  *   22   a field of a stream has the wrong length
@@ -132,12 +132,13 @@ uint64_t tip_unpack_raw10(size_t width, size_t height,
  *   first,       width * height samples each, only read; a sample at any code but 0 may be any number, and changes
  *   second       nothing. Both may be one buffer: p is then 0
  *   place        written: the first offending site for 5 and 6, else 0
- *   p            written: n * (sum of d * d) - (sum of d) * (sum of d)
+ *   p            written: n * (sum of d * d) - (sum of d) * (sum of d), at most the square of n * full_scale, so below
+ *                2^53 and exact as a double, as q is
  *   q            written: 2 * n * n
  *   variance     written: p / q, rounded once, in grey levels squared
  *
  * Refusals, in the order tested: 1; 2; 4 (mask, first or second); 5; 6 (all sites of first, then all of second);
- * 7 (fewer than 2 surveyed sites); 14, which no frames within these limits can give.
+ * 7 (fewer than 2 surveyed sites).
  *
  *   const uint8_t mask[4] = {0, 0, 0, 0};
  *   const uint16_t first[4] = {100, 101, 102, 103}, second[4] = {101, 101, 102, 104};
@@ -240,12 +241,13 @@ uint64_t tip_stack_add(size_t width, size_t height, uint64_t full_scale, uint64_
  *   sums          width * height sums, grey levels, only read; at any code but 0 any number, and changes nothing
  *   squares       width * height sums of squares, grey levels squared, likewise
  *   place         written: the first offending site for 5, else 0
- *   numerator     written: the sum of frames * square - sum * sum over the n surveyed sites (mask code 0)
+ *   numerator     written: the sum of frames * square - sum * sum over the n surveyed sites (mask code 0), at most n
+ *                 times the square of frames * full_scale, so below 2^53 and exact as a double, as denominator is
  *   denominator   written: n * frames * frames
  *   variance      written: numerator / denominator, rounded once, in grey levels squared
  *
  * Refusals, in the order tested: 1; 2; 3 (frames is 0 or above 100); 4 (mask, sums or squares); 5; 7 (no surveyed site,
- * or frames is 1); 11 (as tip_stack_add); 14, which no sums within these limits can give.
+ * or frames is 1); 11 (as tip_stack_add).
  *
  *   const uint8_t mask[4] = {0, 0, 0, 0};
  *   const uint32_t sums[4] = {201, 202, 204, 207}, squares[4] = {20201, 20402, 20808, 21425};

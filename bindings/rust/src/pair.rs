@@ -15,7 +15,8 @@ pub struct Noise {
 
 /// The variance of a pair of frames, in grey levels squared: EMVA 1288, release 3 form, in which the mean difference is
 /// taken off. With d second minus first at a surveyed site and n the count of these, it is
-/// `n * (sum of d * d) - (sum of d) * (sum of d)` over `2 * n * n`.
+/// `n * (sum of d * d) - (sum of d) * (sum of d)` over `2 * n * n`. The numerator is at most the square of
+/// `n * full_scale`, so below 2^53, as the denominator is: both are exact as an f64.
 ///
 /// - `mask`: `width * height` codes, 0 to 3
 /// - `first`, `second`: `width * height` samples each, grey levels, 0 to full scale where surveyed. Both may be one
@@ -24,7 +25,7 @@ pub struct Noise {
 /// # Errors
 ///
 /// In the order tested: 1; 2; 4 (`mask`, `first` or `second`); 5; 6 (all sites of `first`, then all of `second`);
-/// 7 (fewer than 2 surveyed sites); 14, which no frames within these limits can give.
+/// 7 (fewer than 2 surveyed sites).
 ///
 /// ```
 /// use tippovrain::{pair_variance, Fraction, Window};
@@ -70,7 +71,7 @@ pub fn pair_variance(
 /// # Errors
 ///
 /// In the order tested: 1; 2; 4 (`mask`, `first` or `second`); 5; 6 (all sites of `first`, then all of `second`);
-/// 7 (fewer than 2 surveyed sites); 14, which no frames within these limits can give.
+/// 7 (fewer than 2 surveyed sites).
 ///
 /// ```
 /// use tippovrain::{pair_noise, Refusal, Window};

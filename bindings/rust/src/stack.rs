@@ -52,7 +52,8 @@ pub fn stack_add(
 }
 
 /// The variance of a stack, in grey levels squared: the sum of `frames * square - sum * sum` over the n surveyed sites,
-/// over `n * frames * frames`.
+/// over `n * frames * frames`. The numerator is at most n times the square of `frames * full_scale`, so below 2^53, as
+/// the denominator is: both are exact as an f64.
 ///
 /// - `frames`: how many frames are in the stack, 2 to 100
 /// - `mask`: `width * height` codes, 0 to 3
@@ -61,7 +62,7 @@ pub fn stack_add(
 /// # Errors
 ///
 /// In the order tested: 1; 2; 3 (`frames` is 0 or above 100); 4 (`mask`, `sums` or `squares`); 5; 7 (no surveyed site,
-/// or `frames` is 1); 11 (as [`stack_add`]); 14, which no sums within these limits can give.
+/// or `frames` is 1); 11 (as [`stack_add`]).
 ///
 /// ```
 /// use tippovrain::{stack_add, stack_variance, Window};

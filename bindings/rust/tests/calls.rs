@@ -379,7 +379,7 @@ fn jobs() {
 
 #[test]
 fn refusals_in_words() {
-    let given = [
+    let tabled = [
         1, 2, 3, 4, 5, 6, 7, 8, 9, 10, 11, 12, 14, 20, 21, 22, 23, 24,
     ];
     let unknown = Refusal {
@@ -387,14 +387,14 @@ fn refusals_in_words() {
         place: 0,
     }
     .meaning();
-    let mut meanings: Vec<_> = given
+    let mut meanings: Vec<_> = tabled
         .iter()
         .map(|&number| Refusal { number, place: 3 }.meaning())
         .collect();
     assert!(!meanings.contains(&unknown));
     meanings.sort();
     meanings.dedup();
-    assert_eq!(meanings.len(), given.len());
+    assert_eq!(meanings.len(), tabled.len());
 
     let begins = |number, text| Refusal { number, place: 3 }.to_string().starts_with(text);
     assert!(begins(6, "refused 6 at site 3: a surveyed sample"));
