@@ -179,11 +179,7 @@ fn spread<const WALK: bool>(input: &Input) -> Result<(u64, u64), Refusal> {
         return Err((7, 0));
     }
     let d = a.abs_diff(b);
-    let p = n * squares - d * d;
-    if p >= 1 << 53 {
-        return Err((14, 0));
-    }
-    Ok((n, p))
+    Ok((n, n * squares - d * d))
 }
 
 fn give(output: &mut Output, refusal: Refusal, whole: [u64; 2], figure: f64) {
