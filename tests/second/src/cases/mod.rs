@@ -33,7 +33,6 @@ pub const CALLS: &[Call] = &[
         required: &[0, 1, 4],
         round: raw::unpack_raw10,
     },
-    // 14 cannot be reached in the pair calls: P is at most (n x full scale)^2, below 2^53.
     Call {
         name: "pair_variance",
         required: &[0, 1, 2, 4, 5, 6, 7],
@@ -54,7 +53,6 @@ pub const CALLS: &[Call] = &[
         required: &[0, 1, 2, 3, 4, 5, 6, 11, 12],
         round: stack::stack_add,
     },
-    // 14 cannot be reached: 11 keeps the numerator at most n x (k x full scale)^2, below 2^53.
     Call {
         name: "stack_variance",
         required: &[0, 1, 2, 3, 4, 5, 7, 11],

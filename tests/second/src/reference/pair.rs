@@ -59,9 +59,7 @@ fn survey(pair: &Pair) -> Result<(i128, i128), Refusal> {
         squares += difference * difference;
     }
     refuse_if(n < 2, 7)?;
-    let p = n * squares - sum * sum;
-    refuse_if(p >= 1 << 53, 14)?;
-    Ok((n, p))
+    Ok((n, n * squares - sum * sum))
 }
 
 /// The greatest whole number whose square is at most `square`, found by halving.

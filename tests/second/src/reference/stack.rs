@@ -69,7 +69,6 @@ fn variance(stack: &Stack) -> Outcome {
         );
         numerator += k * q - s * s;
     }
-    refuse_if(numerator >= 1 << 53, 14)?;
     let denominator = n * k * k;
     let quotient = rounded_quotient(numerator as u128, denominator as u128);
     Ok(vec![numerator, denominator, quotient.into()])
