@@ -179,7 +179,8 @@ fn tied_frames(figure: Figure, tally: &mut Tally, dice: &mut Dice) {
     }
 }
 
-/// The greatest differences, from one-sided (P 0) to balanced (the greatest P).
+/// The greatest differences, from one-sided (P 0) to balanced: 128 x 128 in turns of 2 has the
+/// greatest P of all windows, (16,384 x 4,095)^2.
 fn full_swing(figure: Figure, tally: &mut Tally, dice: &mut Dice) {
     for shape in [shapes::GREAT[0], shapes::legal(dice)] {
         for turns in [1, 2, 3, 64] {

@@ -96,7 +96,7 @@ pub fn legal(dice: &mut Dice) -> Shape {
     }
 }
 
-/// The greatest windows.
+/// The greatest windows, the greatest of all first.
 pub const GREAT: &[Shape] = &[
     Shape {
         width: 128,

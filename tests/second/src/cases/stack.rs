@@ -199,7 +199,8 @@ fn bad_frames(tally: &mut Tally, dice: &mut Dice) {
     }
 }
 
-/// The greatest numerator, and the greatest sums with none.
+/// The greatest numerator of all stacks, 16,384 x (100 x 4,095)^2, which sums of 0 have, and the
+/// greatest sums, with a numerator of 0.
 fn greatest(tally: &mut Tally) {
     for sum in [0, 100 * 4095] {
         let shape = shapes::GREAT[0];

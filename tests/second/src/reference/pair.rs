@@ -139,7 +139,8 @@ mod tests {
         }
     }
 
-    /// The greatest P of all windows is far from 2^53.
+    /// P is at most (n x full scale)^2, and this window meets that bound. It is below 2^53, so
+    /// every P is an exact float.
     #[test]
     fn the_greatest_p() {
         let first: Vec<u16> = (0..16384).map(|site| site % 2 * 4095).collect();
@@ -153,7 +154,10 @@ mod tests {
             first: &first,
             second: &second,
         };
-        assert_eq!(pair_variance(&pair).figures[0], 4_501_400_872_550_400);
+        let bound = (16384 * 4095i128).pow(2);
+        assert_eq!(bound, 4_501_400_872_550_400);
+        assert!(bound < 1 << 53);
+        assert_eq!(pair_variance(&pair).figures[0], bound);
         assert_eq!(pair_noise(&pair).figures[0], 3_036_259_044);
     }
 }

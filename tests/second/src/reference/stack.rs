@@ -198,7 +198,8 @@ mod tests {
         );
     }
 
-    /// The greatest numerator of all stacks is far from 2^53.
+    /// The numerator is at most n x (k x full scale)^2, and these sums, which refusal 11 lets pass,
+    /// meet that bound. It is below 2^53, so every numerator is an exact float.
     #[test]
     fn the_greatest_numerator() {
         let (mask, sums) = (vec![0; 16384], vec![0; 16384]);
@@ -212,6 +213,10 @@ mod tests {
             sums: &sums,
             squares: &squares,
         };
-        assert_eq!(stack_variance(&greatest).figures[0], 2_747_437_056_000_000);
+        let bound = 16384 * (100 * 4095i128).pow(2);
+        assert_eq!(bound, 2_747_437_056_000_000);
+        assert!(bound < 1 << 53);
+        let figures = stack_variance(&greatest).figures;
+        assert_eq!(figures, [bound, 163_840_000, bits(16_769_025.0, 1.0)]);
     }
 }
