@@ -136,10 +136,12 @@ static void unpack_raw10(void)
               refuses_to_unpack(refused[i].number, refused[i].width, refused[i].height, refused[i].bytes_len, refused[i].out_len));
 }
 
-/* ---- windows of 2 x 2, which the calls with a mask are tried on ---- */
+/* ---- windows that the calls with a mask are tried on: 2 x 2, and the greatest ---- */
 
 static const uint8_t all_surveyed[4] = {0, 0, 0, 0}, one_surveyed[4] = {1, 2, 3, 0}, bad_code[4] = {0, 0, 4, 0};
 static const uint16_t k1_first[4] = {100, 101, 102, 103}, k1_second[4] = {101, 101, 102, 104};
+
+static const uint8_t great_surveyed[128 * 128];
 
 /* The bits of a float: -0.0 and a NaN are told apart from what they compare equal to. */
 static uint64_t bits(double x)
@@ -151,39 +153,51 @@ static uint64_t bits(double x)
 
 /* ---- tip_pair_variance, tip_pair_noise ---- */
 
-static int has_variance(const uint8_t mask[4], uint64_t full_scale, const uint16_t first[4], const uint16_t second[4],
+static int has_variance(size_t side, const uint8_t *mask, uint64_t full_scale, const uint16_t *first, const uint16_t *second,
                         uint64_t number, uint64_t place, uint64_t p, uint64_t q, double variance)
 {
     uint64_t at = UNWRITTEN, got_p = UNWRITTEN, got_q = UNWRITTEN;
     double got = UNWRITTEN;
-    return tip_pair_variance(2, 2, full_scale, mask, 4, first, 4, second, 4, &at, &got_p, &got_q, &got) == number
+    size_t sites = side * side;
+    return tip_pair_variance(side, side, full_scale, mask, sites, first, sites, second, sites, &at, &got_p, &got_q, &got) == number
         && at == place && got_p == p && got_q == q && bits(got) == bits(variance);
 }
 
-static int has_noise(const uint8_t mask[4], uint64_t full_scale, const uint16_t first[4], const uint16_t second[4],
+static int has_noise(size_t side, const uint8_t *mask, uint64_t full_scale, const uint16_t *first, const uint16_t *second,
                      uint64_t number, uint64_t place, uint64_t r, uint64_t n, double noise)
 {
     uint64_t at = UNWRITTEN, got_r = UNWRITTEN, got_n = UNWRITTEN;
     double got = UNWRITTEN;
-    return tip_pair_noise(2, 2, full_scale, mask, 4, first, 4, second, 4, &at, &got_r, &got_n, &got) == number
+    size_t sites = side * side;
+    return tip_pair_noise(side, side, full_scale, mask, sites, first, sites, second, sites, &at, &got_r, &got_n, &got) == number
         && at == place && got_r == r && got_n == n && bits(got) == bits(noise);
 }
 
 static void pair(void)
 {
     static const uint16_t drifted[4] = {107, 108, 109, 110};
+    /* 0 and 4095 in turn, one against the other: p is (16384 * 4095)^2, the greatest of all windows. */
+    static uint16_t low_first[128 * 128], high_first[128 * 128];
 
-    check("tip_pair_variance", "K1", has_variance(all_surveyed, 1023, k1_first, k1_second, 0, 0, 4, 32, 0.125));
-    check("tip_pair_variance", "K2", has_variance(all_surveyed, 1023, k1_first, drifted, 0, 0, 0, 32, 0.0));
-    check("tip_pair_variance", "one frame twice", has_variance(all_surveyed, 1023, k1_first, k1_first, 0, 0, 0, 32, 0.0));
-    check("tip_pair_variance", "refused 2", has_variance(all_surveyed, 4096, k1_first, k1_second, 2, 0, 0, 0, 0.0));
-    check("tip_pair_variance", "refused 5 at 2", has_variance(bad_code, 1023, k1_first, k1_second, 5, 2, 0, 0, 0.0));
-    check("tip_pair_variance", "refused 6 at 3", has_variance(all_surveyed, 103, k1_first, k1_second, 6, 3, 0, 0, 0.0));
-    check("tip_pair_variance", "refused 7", has_variance(one_surveyed, 1023, k1_first, k1_second, 7, 0, 0, 0, 0.0));
-    check("tip_pair_noise", "K1", has_noise(all_surveyed, 1023, k1_first, k1_second, 0, 0, 90, 4, 90.0 / 256.0));
-    check("tip_pair_noise", "K2", has_noise(all_surveyed, 1023, k1_first, drifted, 0, 0, 0, 4, 0.0));
-    check("tip_pair_noise", "refused 6 at 3", has_noise(all_surveyed, 103, k1_first, k1_second, 6, 3, 0, 0, 0.0));
-    check("tip_pair_noise", "refused 7", has_noise(one_surveyed, 1023, k1_first, k1_second, 7, 0, 0, 0, 0.0));
+    for (size_t i = 0; i < COUNT(low_first); i++) {
+        low_first[i] = i % 2 ? 4095 : 0;
+        high_first[i] = i % 2 ? 0 : 4095;
+    }
+    check("tip_pair_variance", "K1", has_variance(2, all_surveyed, 1023, k1_first, k1_second, 0, 0, 4, 32, 0.125));
+    check("tip_pair_variance", "K2", has_variance(2, all_surveyed, 1023, k1_first, drifted, 0, 0, 0, 32, 0.0));
+    check("tip_pair_variance", "the greatest p",
+          has_variance(128, great_surveyed, 4095, low_first, high_first, 0, 0, 4501400872550400, 536870912, 8384512.5));
+    check("tip_pair_variance", "one frame twice", has_variance(2, all_surveyed, 1023, k1_first, k1_first, 0, 0, 0, 32, 0.0));
+    check("tip_pair_variance", "refused 2", has_variance(2, all_surveyed, 4096, k1_first, k1_second, 2, 0, 0, 0, 0.0));
+    check("tip_pair_variance", "refused 5 at 2", has_variance(2, bad_code, 1023, k1_first, k1_second, 5, 2, 0, 0, 0.0));
+    check("tip_pair_variance", "refused 6 at 3", has_variance(2, all_surveyed, 103, k1_first, k1_second, 6, 3, 0, 0, 0.0));
+    check("tip_pair_variance", "refused 7", has_variance(2, one_surveyed, 1023, k1_first, k1_second, 7, 0, 0, 0, 0.0));
+    check("tip_pair_noise", "K1", has_noise(2, all_surveyed, 1023, k1_first, k1_second, 0, 0, 90, 4, 90.0 / 256.0));
+    check("tip_pair_noise", "K2", has_noise(2, all_surveyed, 1023, k1_first, drifted, 0, 0, 0, 4, 0.0));
+    check("tip_pair_noise", "the greatest p",
+          has_noise(128, great_surveyed, 4095, low_first, high_first, 0, 0, 3036259044, 16384, 3036259044.0 / (64.0 * 16384.0)));
+    check("tip_pair_noise", "refused 6 at 3", has_noise(2, all_surveyed, 103, k1_first, k1_second, 6, 3, 0, 0, 0.0));
+    check("tip_pair_noise", "refused 7", has_noise(2, one_surveyed, 1023, k1_first, k1_second, 7, 0, 0, 0, 0.0));
 }
 
 /* ---- tip_dark_level ---- */
@@ -227,11 +241,14 @@ static int stack_holds(const uint32_t sums[4], const uint32_t squares[4])
     return 1;
 }
 
-static int has_stack_variance(uint64_t frames, uint64_t number, uint64_t numerator, uint64_t denominator, double variance)
+static int has_stack_variance(size_t side, uint64_t full_scale, uint64_t frames,
+                              const uint8_t *mask, const uint32_t *sums, const uint32_t *squares,
+                              uint64_t number, uint64_t numerator, uint64_t denominator, double variance)
 {
     uint64_t at = UNWRITTEN, got_numerator = UNWRITTEN, got_denominator = UNWRITTEN;
     double got = UNWRITTEN;
-    return tip_stack_variance(2, 2, 1023, frames, all_surveyed, 4, stack_sums, 4, stack_squares, 4,
+    size_t sites = side * side;
+    return tip_stack_variance(side, side, full_scale, frames, mask, sites, sums, sites, squares, sites,
                               &at, &got_numerator, &got_denominator, &got) == number
         && at == 0 && got_numerator == numerator && got_denominator == denominator && bits(got) == bits(variance);
 }
@@ -240,15 +257,21 @@ static void stack(void)
 {
     static const uint32_t first_sums[4] = {100, 101, 102, 103}, first_squares[4] = {10000, 10201, 10404, 10609};
     static const uint32_t both_sums[4] = {201, 202, 204, 207}, both_squares[4] = {20201, 20402, 20808, 21425};
+    /* Sums of 0, squares as great as refusal 11 lets pass: the numerator is 16384 * (100 * 4095)^2, the greatest of all stacks. */
+    static const uint32_t no_sums[128 * 128];
+    static uint32_t great_squares[128 * 128];
 
+    for (size_t i = 0; i < COUNT(great_squares); i++) great_squares[i] = 100 * 4095 * 4095;
     check("tip_stack_add", "the first frame", adds(0, all_surveyed, k1_first, 0, 1) && stack_holds(first_sums, first_squares));
     check("tip_stack_add", "the second", adds(1, all_surveyed, k1_second, 0, 2) && stack_holds(both_sums, both_squares));
     check("tip_stack_add", "refused 3 at 101", adds(101, all_surveyed, k1_first, 3, 0) && stack_holds(both_sums, both_squares));
     check("tip_stack_add", "refused 11 with no frame in", adds(0, all_surveyed, k1_first, 11, 0) && stack_holds(both_sums, both_squares));
     check("tip_stack_add", "refused 12 at 100", adds(100, all_surveyed, k1_first, 12, 0) && stack_holds(both_sums, both_squares));
-    check("tip_stack_variance", "two frames", has_stack_variance(2, 0, 2, 16, 0.125));
-    check("tip_stack_variance", "refused 3", has_stack_variance(0, 3, 0, 0, 0.0));
-    check("tip_stack_variance", "refused 7", has_stack_variance(1, 7, 0, 0, 0.0));
+    check("tip_stack_variance", "two frames", has_stack_variance(2, 1023, 2, all_surveyed, stack_sums, stack_squares, 0, 2, 16, 0.125));
+    check("tip_stack_variance", "the greatest numerator",
+          has_stack_variance(128, 4095, 100, great_surveyed, no_sums, great_squares, 0, 2747437056000000, 163840000, 16769025.0));
+    check("tip_stack_variance", "refused 3", has_stack_variance(2, 1023, 0, all_surveyed, stack_sums, stack_squares, 3, 0, 0, 0.0));
+    check("tip_stack_variance", "refused 7", has_stack_variance(2, 1023, 1, all_surveyed, stack_sums, stack_squares, 7, 0, 0, 0.0));
 }
 
 /* ---- tip_pattern_vertical, tip_pattern_horizontal ---- */
