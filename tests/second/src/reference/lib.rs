@@ -1,4 +1,4 @@
-//! The reference: document 01, with request h of document 02, in plain loops over wide integers.
+//! The reference: document 01, as the requests of document 02 that have landed amend it, in plain loops over wide integers.
 //! Each call takes the lent buffers, changes those it writes, and gives its answer.
 
 pub mod colour;
