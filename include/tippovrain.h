@@ -80,7 +80,8 @@
  *   10   the Gr total of a colour ratio is not above 0
  *   11   a stack's sums cannot come from its frame count
  *   12   a frame is offered to a stack of 100
- *   14   no call gives this number today; it is kept for photon transfer: numerator or denominator is 2^53 or more
+ *   14   no call gives this number today; it is kept for a call to come, photon transfer: numerator or denominator is
+ *        2^53 or more in size
  *   20   a stream ends inside a field or before it
  *   21   a field of a stream has another tag than the next due
  *   22   a field of a stream has the wrong length

@@ -19,7 +19,7 @@ use std::fmt;
 /// | 10 | the Gr total of a colour ratio is not above 0 |
 /// | 11 | a stack's sums cannot come from its frame count |
 /// | 12 | a frame is offered to a stack of 100 |
-/// | 14 | no call gives this number today; it is kept for photon transfer: numerator or denominator is 2^53 or more |
+/// | 14 | no call gives this number today; it is kept for a call to come, photon transfer: numerator or denominator is 2^53 or more in size |
 /// | 20 | a stream ends inside a field or before it |
 /// | 21 | another tag than the next due |
 /// | 22 | a field has the wrong length |
@@ -90,7 +90,10 @@ impl Refusal {
                  squares below the square of the sum"
             }
             12 => "the stack is full: it holds 100 frames",
-            14 => "numerator or denominator is 2^53 or more: kept for photon transfer, no call gives it today",
+            14 => {
+                "numerator or denominator is 2^53 or more in size: kept for photon transfer, a call to come; \
+                 no call gives it today"
+            }
             20 => "the stream ends inside the field that is due here, or before it",
             21 => "the field that begins here has another tag than the next due (1 to 7, then 0)",
             22 => "the length of the field that begins here is not the one needed",

@@ -1,4 +1,4 @@
--- Document 01, "What the promises have to settle": how far a float may be from an exact figure.
+-- Document 01, "What the promises have to settle": how far a float may be from an exact figure; and document 02, h: when a whole number has an exact float.
 -- A float x is its whole significand times a power of two; num x / den x is its size as a fraction (0 / 1 where x is no such number).
 use Prim.Native.Nat.{ℕ, _+_, _-_, _*_, _≤_}
 use mathlib.Core.Bool.{Bool, false, not}
@@ -26,7 +26,7 @@ pub record NearRoot (x a d : ℕ) : Type 0 where
   pub not-above : (a - d) * (a - d) ≤ x * (d * d)
   pub not-below : x * (d * d) ≤ (a + d) * (a + d)
 
--- n has an exact float (document 01's words in refusal 14): as an f64 it is a number, finite and not negative, and n itself
+-- n has an exact float: as an f64 it is a number, finite and not negative, and n itself
 pub record ExactFloat (n : ℕ) : Type 0 where
   pub is-plain : T (plain (ofInt binary64 (pos n)))
   pub same : num (ofInt binary64 (pos n)) ≡ n * den (ofInt binary64 (pos n))

@@ -1,4 +1,4 @@
--- Squares of differences. One equation, `apart-square`, carries all: a product by a square (`four-times`), Cauchy and Schwarz when one
+-- Squares of differences. One equation, `apart-square`, carries all but the bound `excess-most`: a product by a square (`four-times`), Cauchy and Schwarz when one
 -- number is added (`schwarz-more`), and that n times a sum of squares exceeds the square of the sum by the squares of what the terms differ by (`spread`).
 use Prim.Native.Nat.{ℕ, zero, suc, _+_, _-_, _*_, _≤_, _<_}
 use mathlib.Core.Logic.{_⊎_, inl, inr, ⊎-elim}

@@ -39,7 +39,7 @@ module _ (w h full : ℕ) (mask first second : List ℕ) where
   pub only : Sole (varianceAnswer w h full mask first second) × Sole (noiseAnswer w h full mask first second)
   only = (sole _, sole _)
 
-  -- given: both calls refuse exactly as document 01 tables it, 14 aside (document 02, h), in that order (`tests` has the table)
+  -- given: 1, 2 and 4 to 7 exactly as document 01 tables them, in that order, in both calls (`tests` has the table)
   pub given : Tabled (pairVerdict w h full mask first second) (tests w h full mask first second)
   given = table w h full mask first second
 

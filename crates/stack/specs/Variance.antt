@@ -21,7 +21,7 @@ use Rattle.stack.specs.declared.Variance.the-variants.{Figures, Refused}
 unfoldable pub tooFew : ℕ → ℕ → Bool
 tooFew sites k = eqb sites 0 || ltb k 2
 
--- the refusals in their order: 1 to 5, 3 of the count, 4 of the sums too, then 7 and 11; there is no 14 (document 02, h)
+-- the refusals in their order: 1 to 5, where 3 asks the frame count and 4 the sums too, then 7 and 11; there is no 14 (document 02, h)
 unfoldable pub varianceVerdict : ℕ → ℕ → ℕ → ℕ → List ℕ → List ℕ → List ℕ → Verdict
 varianceVerdict w h full k mask sums squares =
     maskVerdict w h full (refuseIf 3 0 (badCount k)) mask (stackLengths w h (length sums) (length squares))
