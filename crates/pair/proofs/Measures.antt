@@ -83,7 +83,7 @@ module _ (w h full : ℕ) (mask first second : List ℕ) where
     enough-clear f = rw (sym rest ∙ f, ← same-spread)
 
 -- P is at most (n × full scale)², since no two samples are farther apart than full scale
-spread-most : (w h full : ℕ) (mask first second : List ℕ) → Readable w h full mask first second
+pub spread-most : (w h full : ℕ) (mask first second : List ℕ) → Readable w h full mask first second
     → pairSpread w h mask first second .p ≤ pairSpread w h mask first second .n * full * (pairSpread w h mask first second .n * full)
 unfolding spreadOf
 spread-most w h full mask first second r =
@@ -114,7 +114,6 @@ pub record Accepted (w h full : ℕ) (mask first second : List ℕ) : Type 0 whe
   pub frames : Readable w h full mask first second
   pub two : 2 ≤ pairSpread w h mask first second .n
   pub few : pairSpread w h mask first second .n ≤ 16384
-  pub most : pairSpread w h mask first second .p ≤ pairSpread w h mask first second .n * full * (pairSpread w h mask first second .n * full)
   pub exact : pairSpread w h mask first second .p < 2 ^ 53
 
 module _ {w h full : ℕ} {mask first second : List ℕ} where
@@ -127,7 +126,6 @@ module _ {w h full : ℕ} {mask first second : List ℕ} where
         frames = frames;
         two = ltb-false _ 2 (unless 7 0 _ (both .1));
         few = surveyed-most w h mask;
-        most = spread-most w h full mask first second frames;
         exact = spread-exact w h full mask first second frames;
       }
 

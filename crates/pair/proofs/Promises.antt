@@ -31,7 +31,7 @@ use Rattle.pair.specs.Answers.{noVariance, varianceAnswer, variancePaper
 use Rattle.pair.specs.declared.Variance.the-variants as variance
 use Rattle.pair.specs.declared.Noise.the-variants as noise
 use Rattle.pair.proofs.Spreads.{SameDifference, whole, zero-same, same-zero}
-use Rattle.pair.proofs.Measures.{tests, table, accepted, measured}
+use Rattle.pair.proofs.Measures.{tests, table, spread-most, accepted, measured}
 use Rattle.pair.proofs.Calls.{variance-was, noise-was}
 
 module _ (w h full : ℕ) (mask first second : List ℕ) where
@@ -104,7 +104,7 @@ module _ (w h full : ℕ) (mask first second : List ℕ) where
       let n = pairSpread w h mask first second .n in
       let square : n * n ≤ 16384 * 16384 = times-le n n 16384 16384 (was .0 .few) (was .0 .few) in
       let below : (p < 2 ^ 53) × (q < 2 ^ 53) = rw (was .1, was .2) (was .0 .exact, omega (arith, square)) in
-      (rw (was .1) (was .0 .most), below .0, below .1, exact-float p (omega (arith, below .0)), exact-float q (omega (arith, below .1)))
+      (rw (was .1) (spread-most w h full mask first second (was .0 .frames)), below .0, below .1, exact-float p (omega (arith, below .0)), exact-float q (omega (arith, below .1)))
 
   -- P is n × (sum of d²) − (sum of d)² over signed differences
   pub signed : (p q : ℕ) (x : Float) → varianceAnswer w h full mask first second ≡ variance.Figures p q x
