@@ -1,5 +1,6 @@
-// Whole numbers: how far two are apart, the whole square root, and one rounded division.
+// Whole numbers: how far two are apart, the size of a signed one, the whole square root, and one rounded division.
 ghost use mathlib.Core.Path.{_≡_};
+ghost use lib.IntN.{natAbs};
 ghost use Rattle.laws.specs.Signed.{apart};
 ghost use Rattle.exact.specs.Root.{root};
 ghost use Rattle.exact.specs.Quotient.{quotientOrZero};
@@ -9,6 +10,13 @@ pub fn apart(a: u64, b: u64) -> u64
     ensures { λ r. ⌜ r ≡ apart a b ⌝ }
 {
     if a < b { b - a } else { a - b }
+}
+
+// |z|.
+pub fn size(z: i64) -> u64
+    ensures { λ r. ⌜ r ≡ natAbs z ⌝ }
+{
+    if z < 0 { (-1 - z) as u64 + 1 } else { z as u64 }
 }
 
 // The greatest whole number whose square is at most x: Newton's steps, down from a power of two above it.

@@ -1,21 +1,12 @@
 // The job program: one stream on standard input, four lines or one refusal on standard output.
-ghost use mathlib.Core.Path.{_≡_};
-ghost use lib.IntN.{natAbs};
 use stream::Answer;
 use verdict::Refusal;
-
-// The size of a signed number.
-fn size(z: i64) -> u64
-    ensures { λ r. ⌜ r ≡ natAbs z ⌝ }
-{
-    if z < 0 { (-1 - z) as u64 + 1 } else { z as u64 }
-}
 
 fn signed(z: i64) {
     if z < 0 {
         io::write_all(1, b"-");
     }
-    io::print_decimal(1, size(z));
+    io::print_decimal(1, exact::size(z));
 }
 
 fn over(denominator: u64) {

@@ -13,8 +13,8 @@ use Rattle.laws.specs.Signed.{_⊖_}
 use Rattle.laws.proofs.Signeds.{⊖-less, ⊖-sub, ⊖-ge}
 use Rattle.laws.proofs.Machine.{nat-fits}
 use Rattle.laws.proofs.Cases.{not-both}
-use Rattle.job.proofs.size.Statement.{statement}
-use Rattle.job.proofs.size.Tie as tie
+use Rattle.exact.proofs.size.Statement.{statement}
+use Rattle.exact.proofs.size.Tie as tie
 
 minus : (k : ℕ) → 0 ⊖ suc k ≡ negsuc k
 minus k = let e : suc k - suc 0 ≡ k = omega arith in ⊖-less 0 (suc k) (omega arith) ∙ ap negsuc e
