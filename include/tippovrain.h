@@ -268,11 +268,11 @@ uint64_t tip_stack_variance(size_t width, size_t height, uint64_t full_scale, ui
  * mask code must be 0. With C the column totals of the sums, h the height, w the width and k the frame count:
  *
  *   level squared   the sum of (C[i] - C[i+1])^2, i from 0 to w-2, over (w-1) * (h * k * full_scale)^2
- *   Max             the greatest, signed, of 10 * C[i] less C[i-5..i-1] and C[i+1..i+5], i from 5 to w-6,
+ *   Max             the greatest of |10 * C[i] less C[i-5..i-1] and C[i+1..i+5]|, i from 5 to w-6,
  *                   over 10 * h * k * full_scale
  *
- * Both are parts of full scale, given by two whole numbers each, unreduced. The level squared is from 0 to 1, and
- * Max from -1 to 1: its numerator may be below 0.
+ * Both are parts of full scale, from 0 to 1, given by two whole numbers each, unreduced. In Max a dark column counts as a
+ * bright one does: by how far it is from the ten around it.
  *
  *   full_scale          grey levels, 1 to 4095
  *   frames              the stack's frame count, 1 to 100
@@ -287,17 +287,16 @@ uint64_t tip_stack_variance(size_t width, size_t height, uint64_t full_scale, ui
  *
  *   uint8_t mask[24] = {0};
  *   uint32_t sums[24];                 every one 100, but sums[6] and sums[18] 110
- *   uint64_t place, ln, ld, md;
- *   int64_t mn;
+ *   uint64_t place, ln, ld, mn, md;
  *   tip_pattern_vertical(12, 2, 1023, 1, mask, 24, sums, 24, &place, &ln, &ld, &mn, &md);
- *                                      gives 0, and ln/ld is 800/46047276, mn/md is 200/20460
+ *                                      gives 0, and ln/ld is 800/46047276, mn/md is 200/20460, with 90 for 110 too
  */
 uint64_t tip_pattern_vertical(size_t width, size_t height, uint64_t full_scale, uint64_t frames,
                               const uint8_t *mask, size_t mask_len,
                               const uint32_t *sums, size_t sums_len,
                               uint64_t *place,
                               uint64_t *level_numerator, uint64_t *level_denominator,
-                              int64_t *max_numerator, uint64_t *max_denominator);
+                              uint64_t *max_numerator, uint64_t *max_denominator);
 
 /*
  * Horizontal pattern noise: as tip_pattern_vertical, with rows for columns. Width and height change places everywhere:
@@ -311,7 +310,7 @@ uint64_t tip_pattern_horizontal(size_t width, size_t height, uint64_t full_scale
                                 const uint32_t *sums, size_t sums_len,
                                 uint64_t *place,
                                 uint64_t *level_numerator, uint64_t *level_denominator,
-                                int64_t *max_numerator, uint64_t *max_denominator);
+                                uint64_t *max_numerator, uint64_t *max_denominator);
 
 /*
  * Defective sites (dark mode). Each of the four planes is worked alone. A surveyed site (mask code 0) with sample p is

@@ -77,11 +77,11 @@ calls! {
     tip_pattern_vertical(width: usize, height: usize, full_scale: u64, frames: u64)
         reads(mask: u8, sums: u32)
         writes()
-        answers(level_numerator: u64, level_denominator: u64, max_numerator: i64, max_denominator: u64);
+        answers(level_numerator: u64, level_denominator: u64, max_numerator: u64, max_denominator: u64);
     tip_pattern_horizontal(width: usize, height: usize, full_scale: u64, frames: u64)
         reads(mask: u8, sums: u32)
         writes()
-        answers(level_numerator: u64, level_denominator: u64, max_numerator: i64, max_denominator: u64);
+        answers(level_numerator: u64, level_denominator: u64, max_numerator: u64, max_denominator: u64);
     tip_find_defects(width: usize, height: usize, full_scale: u64, threshold: u64)
         reads(mask: u8, frame: u16)
         writes(out_mask: u8)

@@ -1,24 +1,24 @@
 //! Pattern noise of a stack.
 
-use crate::{native, Fraction, Refusal, SignedFraction, Window};
+use crate::{native, Fraction, Refusal, Window};
 
 /// Pattern noise, as parts of full scale.
 #[derive(Debug, Clone, Copy, PartialEq, Eq, Hash)]
 pub struct PatternNoise {
     /// The square of the level: 0 to 1.
     pub level_squared: Fraction,
-    /// The greatest deviation of a line from the ten around it, signed: -1 to 1.
-    pub max: SignedFraction,
+    /// The greatest deviation of a line from the ten around it, bright or dark: 0 to 1.
+    pub max: Fraction,
 }
 
 impl PatternNoise {
-    fn of((level_up, level_down, max_up, max_down): (u64, u64, i64, u64)) -> Self {
+    fn of((level_up, level_down, max_up, max_down): (u64, u64, u64, u64)) -> Self {
         PatternNoise {
             level_squared: Fraction {
                 numerator: level_up,
                 denominator: level_down,
             },
-            max: SignedFraction {
+            max: Fraction {
                 numerator: max_up,
                 denominator: max_down,
             },
@@ -31,8 +31,8 @@ impl PatternNoise {
 /// count:
 ///
 /// - level squared: the sum of `(C[i] - C[i+1])^2`, i from 0 to w-2, over `(w-1) * (h * k * full_scale)^2`
-/// - Max: the greatest, signed, of `10 * C[i]` less `C[i-5..i-1]` and `C[i+1..i+5]`, i from 5 to w-6, over
-///   `10 * h * k * full_scale`
+/// - Max: the greatest of `|10 * C[i] less C[i-5..i-1] and C[i+1..i+5]|`, i from 5 to w-6, over
+///   `10 * h * k * full_scale`: a dark column counts as a bright one does
 ///
 /// What it takes:
 ///
@@ -51,10 +51,12 @@ impl PatternNoise {
 /// # fn main() -> Result<(), tippovrain::Refusal> {
 /// let window = Window { width: 12, height: 2, full_scale: 1023 };
 /// let mut sums = [100; 24];
-/// (sums[6], sums[18]) = (110, 110); // column 6
-/// let noise = pattern_vertical(window, 1, &[0; 24], &sums)?;
-/// assert_eq!(noise.level_squared.to_string(), "800/46047276");
-/// assert_eq!(noise.max.to_string(), "200/20460");
+/// for column_6 in [110, 90] {
+///     (sums[6], sums[18]) = (column_6, column_6);
+///     let noise = pattern_vertical(window, 1, &[0; 24], &sums)?;
+///     assert_eq!(noise.level_squared.to_string(), "800/46047276");
+///     assert_eq!(noise.max.to_string(), "200/20460");
+/// }
 /// # Ok(())
 /// # }
 /// ```

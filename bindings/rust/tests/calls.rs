@@ -182,17 +182,19 @@ fn stack() {
 
 type Pattern = fn(Window, u64, &[u8], &[u32]) -> Result<PatternNoise, Refusal>;
 
-/// Twelve lines, two sites long; line 6 has 110, all others 100.
+/// Twelve lines, two sites long; line 6 has 110, or 90, all others 100.
 fn pattern(call: Pattern, window: Window, line: [usize; 2]) {
     let mut sums = [100; 24];
-    for site in line {
-        sums[site] = 110;
-    }
     let noise = PatternNoise {
         level_squared: unsigned(800, 46047276),
-        max: signed(200, 20460),
+        max: unsigned(200, 20460),
     };
-    assert_eq!(call(window, 1, &[0; 24], &sums), Ok(noise));
+    for stripe in [110, 90] {
+        for site in line {
+            sums[site] = stripe;
+        }
+        assert_eq!(call(window, 1, &[0; 24], &sums), Ok(noise));
+    }
     let turned = self::window(window.height, window.width);
     assert_eq!(call(turned, 1, &[0; 24], &sums), refused(9, 0));
     assert_eq!(call(window, 0, &[0; 24], &sums), refused(3, 0));

@@ -18,7 +18,7 @@ use Rattle.pair.specs.Pair.{numerator, spreadOf, framesVerdict, pairVerdict}
 use Rattle.pair.specs.Answers.{varianceAnswer, noiseAnswer}
 use Rattle.dark.specs.Dark.{aboveBlack, darkVerdict, darkAnswer}
 use Rattle.pattern.specs.Lines.{lineTotal}
-use Rattle.pattern.specs.Figures.{stepOf, standsOut, deviation, figuresOf}
+use Rattle.pattern.specs.Figures.{stepOf, tenAround, standsOut, deviation, figuresOf}
 use Rattle.pattern.specs.Pattern.{patternVerdict, patternAnswer}
 use Rattle.sites.specs.Near.{nearSum}
 use Rattle.sites.specs.Find.{usedThreshold, far, foundAt, markedAt, foundCount, findVerdict, findAnswer, findMask}
@@ -27,7 +27,7 @@ use Rattle.lines.specs.Marks.{linesVerdict, linesAnswer, linesBuffer}
 use Rattle.edges.specs.Table.{Edges, Beside}
 
 pub edges : Edges
-unfolding round ofBits firstTo greatestTo _⊖_ sumToℤ sumTo sumIn sumBox tabulate shapeOf maskVerdict frameVerdict boxSum badSide badSides badScale sitesOf _⨟_ refuseIf refuseFirst seenAt seen one root rootTo joined sampleAt unpackVerdict unpackAnswer unpackBuffer numerator spreadOf framesVerdict pairVerdict varianceAnswer noiseAnswer aboveBlack darkVerdict darkAnswer nearSum usedThreshold far foundAt markedAt foundCount findVerdict findAnswer findMask lineTotal stepOf standsOut deviation figuresOf badCount patternVerdict patternAnswer before after pooled defective markOf markAt linesVerdict linesAnswer linesBuffer
+unfolding round ofBits firstTo greatestTo _⊖_ sumToℤ sumTo sumIn sumBox tabulate shapeOf maskVerdict frameVerdict boxSum badSide badSides badScale sitesOf _⨟_ refuseIf refuseFirst seenAt seen one root rootTo joined sampleAt unpackVerdict unpackAnswer unpackBuffer numerator spreadOf framesVerdict pairVerdict varianceAnswer noiseAnswer aboveBlack darkVerdict darkAnswer nearSum usedThreshold far foundAt markedAt foundCount findVerdict findAnswer findMask lineTotal stepOf tenAround standsOut deviation figuresOf badCount patternVerdict patternAnswer before after pooled defective markOf markAt linesVerdict linesAnswer linesBuffer
 edges = record {
   K1 = (refl, refl, refl);
   K2 = (refl, refl, refl);
@@ -42,5 +42,5 @@ edges = record {
 }
 
 pub beside : Beside
-unfolding firstTo greatestTo _⊖_ sumTo sumIn sumBox tabulate shapeOf maskVerdict frameVerdict boxSum badSide badSides badScale sitesOf _⨟_ refuseIf refuseFirst seenAt seen one lineTotal stepOf standsOut deviation figuresOf badCount patternVerdict patternAnswer before after pooled defective markOf markAt linesVerdict linesBuffer
-beside = record { below-zero = refl; met-unmarked = refl; met-marked = refl }
+unfolding firstTo greatestTo sumTo sumIn sumBox tabulate shapeOf maskVerdict frameVerdict boxSum badSide badSides badScale sitesOf _⨟_ refuseIf refuseFirst seenAt seen one lineTotal stepOf tenAround standsOut deviation figuresOf badCount patternVerdict patternAnswer before after pooled defective markOf markAt linesVerdict linesBuffer
+beside = record { dark-column = refl; dark-row = refl; dark-columns = refl; met-unmarked = refl; met-marked = refl }

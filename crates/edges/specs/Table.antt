@@ -5,7 +5,7 @@ use mathlib.Core.List.{List, [], _∷_}
 use mathlib.Core.Path.{_≡_}
 use lib.Dec.{eqb, ltb}
 use lib.Ieee.{fin, binary64, ofBits}
-use lib.IntN.{pos, negsuc}
+use lib.IntN.{negsuc}
 use Rattle.laws.specs.Table.{tabulate}
 use Rattle.raw.specs.Unpack.{unpackAnswer, unpackBuffer}
 use Rattle.raw.specs.declared.Unpacked.the-variants as raw
@@ -15,7 +15,7 @@ use Rattle.pair.specs.declared.Variance.the-variants as variance
 use Rattle.pair.specs.declared.Noise.the-variants as noise
 use Rattle.dark.specs.Dark.{darkAnswer}
 use Rattle.dark.specs.declared.Dark.the-variants as dark
-use Rattle.pattern.specs.Lines.{columns}
+use Rattle.pattern.specs.Lines as pattern-lines
 use Rattle.pattern.specs.Pattern.{patternAnswer}
 use Rattle.pattern.specs.declared.Pattern.the-variants as pattern
 use Rattle.sites.specs.Find.{findAnswer, findMask}
@@ -36,9 +36,17 @@ but n value place other = tabulate n (λ (i : ℕ). cond (eqb i place) other val
 abbrev ramp : List ℕ
 ramp = 100 ∷ 101 ∷ 102 ∷ 103 ∷ []
 
--- 12 wide, 2 high, all 100 but columns 5 and 6 as given
-abbrev striped : ℕ → ℕ → List ℕ
-striped five six = tabulate 24 (λ (i : ℕ). cond (eqb (i % 12) 5) five (cond (eqb (i % 12) 6) six 100))
+-- twelve lines of two sites, all 100 but lines 5 and 6 as given; `line i` is the line that site i is on
+abbrev striped : (ℕ → ℕ) → ℕ → ℕ → List ℕ
+striped line five six = tabulate 24 (λ (i : ℕ). cond (eqb (line i) 5) five (cond (eqb (line i) 6) six 100))
+
+-- as columns, 12 wide and 2 high
+abbrev asColumns : ℕ → ℕ → List ℕ
+asColumns = striped (λ (i : ℕ). i % 12)
+
+-- as rows, 2 wide and 12 high
+abbrev asRows : ℕ → ℕ → List ℕ
+asRows = striped (λ (i : ℕ). i / 2)
 
 -- 22 wide, 18 high, all 100 but row 4 of plane (0,0), the window's row 8 at even columns: 103 before the site `last`, 102 from there on
 abbrev raised : ℕ → List ℕ
@@ -66,8 +74,8 @@ pub record Edges : Type 0 where
   pub K7 : (findAnswer 4 4 1023 28 (all 16 0) (but 16 64 5 101) 16 ≡ sites.Found 0)
       × (findMask 4 4 1023 28 (all 16 0) (but 16 64 5 101) (all 16 3) ≡ all 16 0)
   -- width 12, height 2, k 1, full scale 1023, all 100 but column 6 at 110: level² 800/46047276, max 200/20460
-  pub K8 : patternAnswer columns 12 2 1023 1 (all 24 0) (striped 100 110)
-      ≡ pattern.Measured (record { «level_numerator» = 800; «level_denominator» = 46047276; «max_numerator» = pos 200; «max_denominator» = 20460 })
+  pub K8 : patternAnswer pattern-lines.columns 12 2 1023 1 (all 24 0) (asColumns 100 110)
+      ≡ pattern.Measured (record { «level_numerator» = 800; «level_denominator» = 46047276; «max_numerator» = 200; «max_denominator» = 20460 })
   -- 2 wide, 18 high; in one plane row 4 is 103, all else 100: row 4 alone is marked (here of plane (0,1), whose marks begin at 9)
   pub K9 : (linesAnswer rows 2 18 1023 (all 36 0) (but 36 100 17 103) 36 ≡ lines.Done)
       × (linesBuffer rows 2 18 1023 (all 36 0) (but 36 100 17 103) (all 36 0) ≡ but 36 0 13 1)
@@ -77,9 +85,15 @@ pub record Edges : Type 0 where
 
 -- what K1 to K10 leave open
 pub record Beside : Type 0 where
-  -- the greatest deviation is below 0: −1800 over 20460
-  pub below-zero : patternAnswer columns 12 2 1023 1 (all 24 0) (striped 0 0)
-      ≡ pattern.Measured (record { «level_numerator» = 80000; «level_denominator» = 46047276; «max_numerator» = negsuc 1799; «max_denominator» = 20460 })
+  -- document 02 c: K8 with column 6 at 90. With their signs, the deviations of columns 5 and 6 are 20 and −200
+  pub dark-column : patternAnswer pattern-lines.columns 12 2 1023 1 (all 24 0) (asColumns 100 90)
+      ≡ pattern.Measured (record { «level_numerator» = 800; «level_denominator» = 46047276; «max_numerator» = 200; «max_denominator» = 20460 })
+  -- the same turned: row 6 at 90
+  pub dark-row : patternAnswer pattern-lines.rows 2 12 1023 1 (all 24 0) (asRows 100 90)
+      ≡ pattern.Measured (record { «level_numerator» = 800; «level_denominator» = 46047276; «max_numerator» = 200; «max_denominator» = 20460 })
+  -- columns 5 and 6 at 0: with their signs, both deviations are −1800
+  pub dark-columns : patternAnswer pattern-lines.columns 12 2 1023 1 (all 24 0) (asColumns 0 0)
+      ≡ pattern.Measured (record { «level_numerator» = 80000; «level_denominator» = 46047276; «max_numerator» = 1800; «max_denominator» = 20460 })
   -- a row met as often as the mirror meets it, itself twice: nine sites at 103 and two at 102 are not marked, ten and one are
   pub met-unmarked : linesBuffer rows 22 18 1023 (all 396 0) (raised 194) (all 36 0) ≡ all 36 0
   pub met-marked : linesBuffer rows 22 18 1023 (all 396 0) (raised 196) (all 36 0) ≡ but 36 0 4 1

@@ -4,11 +4,10 @@ use mathlib.Core.Bool.{Bool, true, false, cond}
 use mathlib.Core.Path.{_≡_, refl, ap₂}
 use native.Mathlib.Numerals.{add-one}
 use native.Mathlib.Omega.{arith}
-use lib.IntN.{ℤ}
-use lib.Signed.{ltZ}
+use lib.Dec.{ltb}
 use Rattle.laws.specs.Greatest.{greater, greatestTo}
 
-module _ (f : ℕ → ℤ) where
+module _ (f : ℕ → ℕ) where
   -- where a search for the greatest begins
   pub greatest-none : f 0 ≡ greatestTo 0 f
   unfolding greatestTo
@@ -20,17 +19,17 @@ module _ (f : ℕ → ℤ) where
   greatest-more n = rw (add-one n)
 
   -- what holds of each holds of the greatest
-  pub greatest-of : (P : ℤ → Type 0) (n : ℕ) → ((k : ℕ) → k ≤ n → P (f k)) → P (greatestTo n f)
+  pub greatest-of : (P : ℕ → Type 0) (n : ℕ) → ((k : ℕ) → k ≤ n → P (f k)) → P (greatestTo n f)
   unfolding greatestTo
   greatest-of P zero h = h 0 (omega arith)
-  greatest-of P (suc n) h = by (ltZ (greatestTo n f) (f (suc n))) (greatest-of P n (λ k l. h k (omega arith)))
+  greatest-of P (suc n) h = by (ltb (greatestTo n f) (f (suc n))) (greatest-of P n (λ k l. h k (omega arith)))
     where
       by : (b : Bool) → P (greatestTo n f) → P (cond b (f (suc n)) (greatestTo n f))
       by true before = h (suc n) (omega arith)
       by false before = before
 
 -- of functions that agree up to n
-pub greatest-ext : (n : ℕ) (f g : ℕ → ℤ) → ((k : ℕ) → k ≤ n → f k ≡ g k) → greatestTo n f ≡ greatestTo n g
+pub greatest-ext : (n : ℕ) (f g : ℕ → ℕ) → ((k : ℕ) → k ≤ n → f k ≡ g k) → greatestTo n f ≡ greatestTo n g
 unfolding greatestTo
 greatest-ext zero f g h = h 0 (omega arith)
 greatest-ext (suc n) f g h = ap₂ greater (greatest-ext n f g (λ k l. h k (omega arith))) (h (suc n) (omega arith))

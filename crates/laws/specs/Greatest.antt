@@ -1,14 +1,13 @@
--- The greatest of signed numbers.
+-- The greatest of whole numbers.
 use Prim.Native.Nat.{ℕ, zero, suc}
 use mathlib.Core.Bool.{cond}
-use lib.IntN.{ℤ}
-use lib.Signed.{ltZ}
+use lib.Dec.{ltb}
 
 -- the greater of two
-abbrev pub greater : ℤ → ℤ → ℤ
-greater x y = cond (ltZ x y) y x
+abbrev pub greater : ℕ → ℕ → ℕ
+greater x y = cond (ltb x y) y x
 
 -- the greatest of f 0, f 1, .., f n
-unfoldable pub greatestTo : ℕ → (ℕ → ℤ) → ℤ
+unfoldable pub greatestTo : ℕ → (ℕ → ℕ) → ℕ
 greatestTo zero f = f 0
 greatestTo (suc n) f = greater (greatestTo n f) (f (suc n))

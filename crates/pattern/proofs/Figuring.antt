@@ -3,14 +3,12 @@ use Prim.Native.Nat.{ℕ, _+_, _-_, _*_, _<_, _≤_}
 use mathlib.Core.Path.{_≡_, ap, ap₂, _∙_}
 use native.Mathlib.Nat.{add-zero, zero-add, sub-self}
 use native.Mathlib.Omega.{arith}
-use lib.IntN.{ℤ, pos, natAbs}
 use Rattle.laws.specs.Sum.{sumTo, sumIn}
 use Rattle.laws.specs.Signed.{apart}
 use Rattle.laws.specs.Greatest.{greater, greatestTo}
 use Rattle.laws.proofs.Greatests.{greatest-more, greatest-of, greatest-ext}
 use Rattle.laws.proofs.Cases.{times-le}
 use Rattle.laws.proofs.Sums.{sum-more, sum-ext, sum-le, sum-zero, in-ext, in-le, in-same}
-use Rattle.laws.proofs.Signeds.{⊖-self, ⊖-size}
 use Rattle.pattern.specs.Figures.{stepOf, levelOf, standsOut, deviation, maxOf, figuresOf}
 
 -- the square of the step between two totals fits
@@ -35,7 +33,7 @@ module _ (C : ℕ → ℕ) where
       ap (standsOut (10 * C i)) (ap₂ (λ (x y : ℕ). x + y) (p ∙ ap (λ (n : ℕ). sumIn (i - 5) n C) e) (q ∙ ap (λ (n : ℕ). sumIn (i + 1) n C) f))
 
   -- a turn of the search for the greatest of them
-  pub max-more : (i : ℕ) (best here : ℤ) → 6 ≤ i → best ≡ greatestTo (i - 6) (λ (j : ℕ). deviation C (j + 5)) → here ≡ deviation C i
+  pub max-more : (i best here : ℕ) → 6 ≤ i → best ≡ greatestTo (i - 6) (λ (j : ℕ). deviation C (j + 5)) → here ≡ deviation C i
       → greater best here ≡ greatestTo (i + 1 - 6) (λ (j : ℕ). deviation C (j + 5))
   max-more i best here l p q =
       let e : i - 6 + 1 ≡ i + 1 - 6 = omega arith in
@@ -50,7 +48,16 @@ module _ (C : ℕ → ℕ) where
   unfolding stepOf
   level-more i sum square p q = ap₂ (λ (x y : ℕ). x + y) p q ∙ sum-more i (stepOf C)
 
--- the figures look at no total but the n lines'
+-- equal steps and equal deviations make equal figures
+pub figures-same : (n unit : ℕ) (C D : ℕ → ℕ) → ((i : ℕ) → i < n - 1 → stepOf C i ≡ stepOf D i)
+    → ((j : ℕ) → j ≤ n - 11 → deviation C (j + 5) ≡ deviation D (j + 5)) → figuresOf n unit C ≡ figuresOf n unit D
+unfolding figuresOf
+figures-same n unit C D steps deviations =
+    let level = sum-ext (n - 1) (stepOf C) (stepOf D) steps in
+    let max = greatest-ext (n - 11) (λ (j : ℕ). deviation C (j + 5)) (λ (j : ℕ). deviation D (j + 5)) deviations in
+    rw (level, max)
+
+-- so the figures look at no total but the n lines'
 module _ (n : ℕ) (C D : ℕ → ℕ) (low : 12 ≤ n) (same : (i : ℕ) → i < n → C i ≡ D i) where
   step-ext : (i : ℕ) → i < n - 1 → stepOf C i ≡ stepOf D i
   unfolding stepOf
@@ -64,20 +71,7 @@ module _ (n : ℕ) (C D : ℕ → ℕ) (low : 12 ≤ n) (same : (i : ℕ) → i 
       rw (same (j + 5) (omega arith), before, after)
 
   pub figures-ext : (unit : ℕ) → figuresOf n unit C ≡ figuresOf n unit D
-  unfolding figuresOf
-  figures-ext unit =
-      let level = sum-ext (n - 1) (stepOf C) (stepOf D) step-ext in
-      let max = greatest-ext (n - 11) (λ (j : ℕ). deviation C (j + 5)) (λ (j : ℕ). deviation D (j + 5)) deviation-ext in
-      rw (level, max)
-
--- how far a total stands out, of its size and where it does not
-stands-size : (ten around b : ℕ) → ten ≤ b → around ≤ b → natAbs (standsOut ten around) ≤ b
-unfolding standsOut
-stands-size ten around b p q = rw (⊖-size ten around) (omega arith)
-
-stands-level : (ten around : ℕ) → ten ≡ around → standsOut ten around ≡ pos 0
-unfolding standsOut
-stands-level ten around e = rw e (⊖-self around)
+  figures-ext unit = figures-same n unit C D step-ext deviation-ext
 
 -- totals of at most `unit` have figures of at most 1
 module _ (n unit : ℕ) (C : ℕ → ℕ) (low : 12 ≤ n) (small : (i : ℕ) → i < n → C i ≤ unit) where
@@ -93,16 +87,15 @@ module _ (n unit : ℕ) (C : ℕ → ℕ) (low : 12 ≤ n) (small : (i : ℕ) �
   five-small : (a b : ℕ) → b - a ≡ 5 → b ≤ n → sumIn a b C ≤ 5 * unit
   five-small a b e l = rw e at (in-le a b unit C (λ k p q. small k (omega arith)))
 
-  deviation-small : (j : ℕ) → j ≤ n - 11 → natAbs (deviation C (j + 5)) ≤ 10 * unit
+  deviation-small : (j : ℕ) → j ≤ n - 11 → deviation C (j + 5) ≤ 10 * unit
   unfolding deviation
   deviation-small j l =
       let before = five-small (j + 5 - 5) (j + 5) (omega arith) (omega arith) in
       let after = five-small (j + 5 + 1) (j + 5 + 6) (omega arith) (omega arith) in
-      stands-size (10 * C (j + 5)) (sumIn (j + 5 - 5) (j + 5) C + sumIn (j + 5 + 1) (j + 5 + 6) C) (10 * unit)
-      (omega (arith, small (j + 5) (omega arith))) (omega arith)
+      omega (arith, small (j + 5) (omega arith), before, after)
 
-  pub max-le : natAbs (maxOf n C) ≤ 10 * unit
-  max-le = greatest-of (λ (j : ℕ). deviation C (j + 5)) (λ (z : ℤ). natAbs z ≤ 10 * unit) (n - 11) deviation-small
+  pub max-le : maxOf n C ≤ 10 * unit
+  max-le = greatest-of (λ (j : ℕ). deviation C (j + 5)) (λ (m : ℕ). m ≤ 10 * unit) (n - 11) deviation-small
 
 -- equal totals have none
 module _ (n c : ℕ) (C : ℕ → ℕ) (low : 12 ≤ n) (same : (i : ℕ) → i < n → C i ≡ c) where
@@ -116,12 +109,12 @@ module _ (n c : ℕ) (C : ℕ → ℕ) (low : 12 ≤ n) (same : (i : ℕ) → i 
   five-flat : (a b : ℕ) → b - a ≡ 5 → b ≤ n → sumIn a b C ≡ 5 * c
   five-flat a b e l = rw e at (in-same a b c C (λ k p q. same k (omega arith)))
 
-  deviation-flat : (j : ℕ) → j ≤ n - 11 → deviation C (j + 5) ≡ pos 0
+  deviation-flat : (j : ℕ) → j ≤ n - 11 → deviation C (j + 5) ≡ 0
   unfolding deviation
   deviation-flat j l =
       let before = five-flat (j + 5 - 5) (j + 5) (omega arith) (omega arith) in
       let after = five-flat (j + 5 + 1) (j + 5 + 6) (omega arith) (omega arith) in
-      stands-level (10 * C (j + 5)) (sumIn (j + 5 - 5) (j + 5) C + sumIn (j + 5 + 1) (j + 5 + 6) C) (omega (arith, same (j + 5) (omega arith)))
+      omega (arith, same (j + 5) (omega arith), before, after)
 
-  pub max-flat : maxOf n C ≡ pos 0
-  max-flat = greatest-of (λ (j : ℕ). deviation C (j + 5)) (λ (z : ℤ). z ≡ pos 0) (n - 11) deviation-flat
+  pub max-flat : maxOf n C ≡ 0
+  max-flat = greatest-of (λ (j : ℕ). deviation C (j + 5)) (λ (m : ℕ). m ≡ 0) (n - 11) deviation-flat

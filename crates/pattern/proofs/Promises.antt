@@ -5,7 +5,6 @@ use mathlib.Core.List.{List}
 use mathlib.Core.Path.{_≡_, refl, sym, _∙_}
 use native.Mathlib.Nat.{mul-assoc}
 use native.Mathlib.Omega.{arith}
-use lib.IntN.{pos, natAbs}
 use Rattle.laws.proofs.Cases.{times-le}
 use Rattle.laws.proofs.Sole.{Sole, sole}
 use Rattle.verdict.specs.Answer.{Paper, paperFor}
@@ -55,12 +54,12 @@ module _ (lines : ℕ → ℕ → Lines) (w h full k : ℕ) (mask : List ℕ) wh
   refused sums = refuses (patternVerdict lines w h full k mask sums) (given sums) refl (λ r e. rw e)
 
 -- ---- of an accepted call, vertical or horizontal
--- the level squared is from 0 to 1 and Max from -1 to 1, and all four numbers are far within 64 bits
+-- the level squared and Max are from 0 to 1, and all four numbers are far within 64 bits
 pub record Bounded (f : Figures) : Type 0 where
   pub level : f .«level_numerator» ≤ f .«level_denominator»
   pub level-some : 0 < f .«level_denominator»
   pub level-room : f .«level_denominator» ≤ 348924506112000000
-  pub max : natAbs (f .«max_numerator») ≤ f .«max_denominator»
+  pub max : f .«max_numerator» ≤ f .«max_denominator»
   pub max-some : 0 < f .«max_denominator»
   pub max-room : f .«max_denominator» ≤ 524160000
 
@@ -74,7 +73,14 @@ module _ (vertical : Bool) (w h full k : ℕ) (mask sums : List ℕ) (figures : 
       answer-is (lined vertical) w h full k mask sums figures accepted .1
       ∙ sym (figures-seen vertical w h full k mask sums passed)
 
-  enough : 12 ≤ lined vertical w h .count
+  -- how many lines there are, and their totals
+  abbrev n : ℕ
+  n = lined vertical w h .count
+
+  abbrev C : ℕ → ℕ
+  C = lineTotal (lined vertical w h) (held sums)
+
+  enough : 12 ≤ n
   enough = rw (count-is vertical w h) (passed .enough)
 
   -- bounded: nothing overflows within the limits
@@ -89,14 +95,8 @@ module _ (vertical : Bool) (w h full k : ℕ) (mask sums : List ℕ) (figures : 
     max-room = omega (arith, unit-high);
   })
     where
-      n : ℕ
-      n = lined vertical w h .count
-
       unit : ℕ
       unit = lined vertical w h .long * k * full
-
-      C : ℕ → ℕ
-      C = lineTotal (lined vertical w h) (held sums)
 
       small : (i : ℕ) → i < n → C i ≤ unit
       small i l = omega (arith, total-le vertical w h (held sums) (k * full) (passed .fair .possible) i l, mul-assoc (lined vertical w h .long) k full)
@@ -114,18 +114,12 @@ module _ (vertical : Bool) (w h full k : ℕ) (mask sums : List ℕ) (figures : 
       unit-high = rw (long-is vertical w h) (unit-le vertical w h full k sums (passed .fair))
 
   -- even: a window of equal sums has level 0 and Max 0
-  pub even : (s : ℕ) → ((i : ℕ) → i < h * w → held sums i ≡ s) → (figures .«level_numerator» ≡ 0) × (figures .«max_numerator» ≡ pos 0)
+  pub even : (s : ℕ) → ((i : ℕ) → i < h * w → held sums i ≡ s) → (figures .«level_numerator» ≡ 0) × (figures .«max_numerator» ≡ 0)
   unfolding figuresOf
   even s same = rw are (level-flat n c C enough flat, max-flat n c C enough flat)
     where
-      n : ℕ
-      n = lined vertical w h .count
-
       c : ℕ
       c = lined vertical w h .long * s
-
-      C : ℕ → ℕ
-      C = lineTotal (lined vertical w h) (held sums)
 
       flat : (i : ℕ) → i < n → C i ≡ c
       flat = total-flat vertical w h (held sums) s same

@@ -1,4 +1,4 @@
-// Pattern noise of a stack, vertical and horizontal by one walk over lines: document 01, "Pattern noise".
+// Pattern noise of a stack, vertical and horizontal by one walk over lines: document 01, "Pattern noise", as document 02 c amends it.
 ghost use mathlib.Core.Path.{_≡_};
 ghost use Prim.Native.Nat.{ℕ, _+_, _*_, _<_, _≤_};
 ghost use lib.ListN.{length};
@@ -18,7 +18,7 @@ use verdict::Verdict;
 pub struct Figures {
     pub level_numerator: u64,
     pub level_denominator: u64,
-    pub max_numerator: i64,
+    pub max_numerator: u64,
     pub max_denominator: u64,
 }
 
@@ -125,15 +125,16 @@ fn five(totals: &[u64; 128], at: usize, count: usize) -> u64
     totals[at] + totals[at + 1] + totals[at + 2] + totals[at + 3] + totals[at + 4]
 }
 
-fn stands_out(ten: u64, around: u64) -> i64
-    requires { ⌜ (ten ≤ 524160000) × (around ≤ 524160000) ⌝ }
-    ensures { λ r. ⌜ r ≡ standsOut ten around ⌝ }
+// How far ten times a total is from the sum of the ten around it: a dark line counts as a bright one does.
+fn stands_out(tenfold: u64, around: u64) -> u64
+    requires { ⌜ (tenfold ≤ 524160000) × (around ≤ 524160000) ⌝ }
+    ensures { λ r. ⌜ r ≡ standsOut tenfold around ⌝ }
 {
-    ten as i64 - around as i64
+    exact::size(tenfold as i64 - around as i64)
 }
 
 // How far line i stands out from the five lines before it and the five after it.
-fn deviation_at(totals: &[u64; 128], i: usize, count: usize) -> i64
+fn deviation_at(totals: &[u64; 128], i: usize, count: usize) -> u64
     requires { ⌜ (5 ≤ i) × (i + 6 ≤ count) × (count ≤ 128) × Possible count (now totals) ⌝ }
     ensures { λ r. ⌜ r ≡ deviation (held (now (totals .entry))) i ⌝ }
 {
@@ -142,14 +143,14 @@ fn deviation_at(totals: &[u64; 128], i: usize, count: usize) -> i64
     stands_out(10 * totals[i], before + after)
 }
 
-fn greater_of(a: i64, b: i64) -> i64
+fn greater_of(a: u64, b: u64) -> u64
     ensures { λ r. ⌜ r ≡ greater a b ⌝ }
 {
     if a < b { b } else { a }
 }
 
 // The greatest deviation, from the first line that has five on either side to the last.
-fn max(totals: &[u64; 128], count: usize) -> i64
+fn max(totals: &[u64; 128], count: usize) -> u64
     requires { ⌜ (12 ≤ count) × (count ≤ 128) × Possible count (now totals) ⌝ }
     ensures { λ r. ⌜ r ≡ maxOf count (held (now (totals .entry))) ⌝ }
 {

@@ -10,7 +10,7 @@ fn hand_pattern(
     place: &mut u64,
     level_numerator: &mut u64,
     level_denominator: &mut u64,
-    max_numerator: &mut i64,
+    max_numerator: &mut u64,
     max_denominator: &mut u64,
 ) -> u64
     ensures number { λ r. ⌜ r ≡ paperOf answer .number ⌝ }
@@ -23,8 +23,7 @@ fn hand_pattern(
             *place = 0;
             *level_numerator = figures.level_numerator;
             *level_denominator = figures.level_denominator;
-            let max = figures.max_numerator;
-            *max_numerator = max;
+            *max_numerator = figures.max_numerator;
             *max_denominator = figures.max_denominator;
             0
         }
@@ -50,7 +49,7 @@ pub extern "C" fn tip_pattern_vertical(
     place: &mut u64,
     level_numerator: &mut u64,
     level_denominator: &mut u64,
-    max_numerator: &mut i64,
+    max_numerator: &mut u64,
     max_denominator: &mut u64,
 ) -> u64
     ensures number { λ r. ⌜ r ≡ patternPaper columns width height «full_scale» frames (now (mask .entry)) (now (sums .entry)) .number ⌝ }
@@ -80,7 +79,7 @@ pub extern "C" fn tip_pattern_horizontal(
     place: &mut u64,
     level_numerator: &mut u64,
     level_denominator: &mut u64,
-    max_numerator: &mut i64,
+    max_numerator: &mut u64,
     max_denominator: &mut u64,
 ) -> u64
     ensures number { λ r. ⌜ r ≡ patternPaper rows width height «full_scale» frames (now (mask .entry)) (now (sums .entry)) .number ⌝ }

@@ -2,8 +2,7 @@
 use Prim.Native.Nat.{_≤_}
 use mathlib.Core.Path.{_∙_}
 use native.Mathlib.Omega.{arith}
-use mir.Facts.{toZ-ofZ}
-use borrow.Author.Needs.{sfits-of, needs}
+use borrow.Author.Needs.{needs}
 use Rattle.pattern.specs.Walk.{held}
 use Rattle.pattern.proofs.Figuring.{deviation-is}
 use Rattle.pattern.proofs.deviation_at.Statement.{statement}
@@ -42,7 +41,7 @@ stands-out-requires c κs = omega (arith, own (c .before .before .before), c .be
 
 returns : tie.Need-returns
 returns c = let s = c .before .before .before .before in
-    toZ-ofZ (sfits-of (c .stands-out .ok)) ∙ c .stands-out .ensures ∙ deviation-is (held (s .args .totals .now)) (s .args .i) _ _ (omega arith) (c .before .before .before .five .ensures .0) (c .before .before .five2 .ensures .0)
+    c .stands-out .ensures ∙ deviation-is (held (s .args .totals .now)) (s .args .i) _ _ (omega arith) (c .before .before .before .five .ensures .0) (c .before .before .five2 .ensures .0)
 
 pub deviation-at-spec : {M : Type 1} → statement M
 deviation-at-spec =

@@ -1,8 +1,7 @@
 -- `figures_of` is right because its four numbers are the definition's, and the products of a total's unit leave room.
 use Prim.Native.Nat.{_*_, _-_}
 use native.Mathlib.Omega.{arith}
-use mir.Facts.{toZ-ofZ}
-use borrow.Author.Needs.{sfits-of, needs}
+use borrow.Author.Needs.{needs}
 use Rattle.laws.proofs.Cases.{times-le}
 use Rattle.pattern.specs.Figures.{figuresOf}
 use Rattle.pattern.proofs.figures_of.Statement.{statement}
@@ -31,7 +30,7 @@ mul-t10 c = search needs
 
 returns : tie.Need-returns
 unfolding figuresOf
-returns c = cc (c .before .level .ensures, toZ-ofZ (sfits-of (c .max .ok)), c .max .ensures)
+returns c = cc (c .before .level .ensures, c .max .ensures)
 
 pub figures-of-spec : {M : Type 1} → statement M
 figures-of-spec =

@@ -2,10 +2,7 @@
 use Prim.Native.Nat.{ℕ, _+_, _-_, _≤_}
 use mathlib.Core.Path.{_≡_, refl, ap, _∙_}
 use native.Mathlib.Omega.{arith}
-use mir.Facts.{toZ-ofZ}
-use mir.Val.{toZ}
-use mir.Syntax.{w64}
-use borrow.Author.Needs.{sfits-of, needs}
+use borrow.Author.Needs.{needs}
 use Rattle.laws.proofs.Greatests.{greatest-none}
 use Rattle.laws.specs.Greatest.{greatestTo}
 use Rattle.pattern.proofs.Figuring.{max-more}
@@ -15,7 +12,7 @@ use Rattle.pattern.proofs.max.Statement.{statement}
 use Rattle.pattern.proofs.max.Tie as tie
 
 abbrev Inv-loop : tie.InvT-loop
-Inv-loop totals count greatest₀ i₀ i-end greatest i = (6 ≤ i) × (i ≤ i-end) × (i-end ≡ count - 5) × (toZ w64 greatest ≡ greatestTo (i - 6) (λ (j : ℕ). deviation (held totals) (j + 5)))
+Inv-loop totals count greatest₀ i₀ i-end greatest i = (6 ≤ i) × (i ≤ i-end) × (i-end ≡ count - 5) × (greatest ≡ greatestTo (i - 6) (λ (j : ℕ). deviation (held totals) (j + 5)))
 
 abbrev μ-loop : tie.MeasureT-loop
 μ-loop totals count greatest₀ i₀ i-end greatest i = i-end - i
@@ -27,7 +24,7 @@ sub-i-end : tie.Need-sub-i-end Inv-loop μ-loop
 sub-i-end c = search needs
 
 loop-holds : tie.Need-loop-holds Inv-loop μ-loop
-loop-holds c = (omega arith, omega arith, refl, toZ-ofZ (sfits-of (c .deviation-at .ok)) ∙ c .deviation-at .ensures ∙ greatest-none _)
+loop-holds c = (omega arith, omega arith, refl, c .deviation-at .ensures ∙ greatest-none _)
 
 deviation-at-requires-2 : tie.Need-deviation-at-requires-2 Inv-loop μ-loop
 deviation-at-requires-2 c κs = (omega arith, omega arith, omega arith, c .before .before .before .pre .2)
@@ -47,8 +44,8 @@ loop-again c = let l = c .before .before .before in
       omega arith,
       omega arith,
       refl,
-      toZ-ofZ (sfits-of (c .greater-of .ok)) ∙ c .greater-of .ensures
-          ∙ max-more (held (s .args .totals .now)) (l .loop .i) _ _ (omega arith) (l .loop .inv .3) (toZ-ofZ (sfits-of (c .before .deviation-at2 .ok)) ∙ c .before .deviation-at2 .ensures),
+      c .greater-of .ensures
+          ∙ max-more (held (s .args .totals .now)) (l .loop .i) _ _ (omega arith) (l .loop .inv .3) (c .before .deviation-at2 .ensures),
     )
 
 returns : tie.Need-returns Inv-loop μ-loop
