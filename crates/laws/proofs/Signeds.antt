@@ -1,6 +1,7 @@
 -- The laws of `a ⊖ b`: what is to be shown of a signed number is arithmetic of the two naturals it is the difference of.
 use Prim.Native.Nat.{ℕ, zero, suc, _+_, _-_, _*_, _≤_, _<_}
-use mathlib.Core.Logic.{⊎-elim}
+use mathlib.Core.Bool.{false}
+use mathlib.Core.Logic.{_⊎_, inl, inr, ⊎-elim}
 use mathlib.Core.Path.{_≡_, refl, sym, ap, ap₂, _∙_}
 use native.Mathlib.Nat.{add-zero, add-comm, add-mul}
 use native.Mathlib.Omega.{arith}
@@ -147,6 +148,21 @@ pub ⊖-squares : (n : ℕ) (a b : ℕ → ℕ)
 unfolding sumToℤ sumTo
 ⊖-squares zero a b = refl
 ⊖-squares (suc n) a b = ap₂ (λ (x y : ℤ). x +ℤ y) (⊖-squares n a b) (⊖-square (a n) (b n))
+
+-- a difference is how far the two are apart, or that with its sign turned
+pub ⊖-either : (a b : ℕ) → (a ⊖ b ≡ pos (apart a b)) ⊎ (a ⊖ b ≡ negℤ (pos (apart a b)))
+⊖-either a b =
+    ⊎-elim
+    (λ l. let e : b - a ≡ apart a b = omega arith in inr (sym (⊖-neg b a) ∙ ap negℤ (⊖-ge b a (omega arith) ∙ ap pos e)))
+    (λ g. let e : a - b ≡ apart a b = omega arith in inl (⊖-ge a b g ∙ ap pos e))
+    (lt-or-ge a b)
+
+-- one whose size is at most m is not above m, and not below −m
+pub ⊖-up-to : (a b m : ℕ) → apart a b ≤ m → ltZ (pos m) (a ⊖ b) ≡ false
+⊖-up-to a b m l = rw (← ⊖-zero m) (⊖-ltZ m 0 a b ∙ le-ltb (m + b) (a + 0) (omega arith))
+
+pub ⊖-down-to : (a b m : ℕ) → apart a b ≤ m → ltZ (a ⊖ b) (negℤ (pos m)) ≡ false
+⊖-down-to a b m l = ap (ltZ (a ⊖ b)) (ap negℤ (sym (⊖-zero m)) ∙ ⊖-neg m 0) ∙ ⊖-ltZ a b 0 m ∙ le-ltb (a + m) (0 + b) (omega arith)
 
 -- the size of a difference of two numbers that are at most m
 pub ⊖-within : (a b m : ℕ) → a ≤ m → b ≤ m → natAbs (a ⊖ b) ≤ m

@@ -2,7 +2,7 @@
 use Prim.Native.Nat.{ℕ, _-_, _*_, _<_, _≤_}
 use mathlib.Core.Bool.{Bool, false}
 use mathlib.Core.List.{List}
-use mathlib.Core.Path.{_≡_, refl, sym, _∙_}
+use mathlib.Core.Path.{_≡_, refl, sym, ap, _∙_}
 use native.Mathlib.Nat.{mul-assoc}
 use native.Mathlib.Omega.{arith}
 use Rattle.laws.proofs.Cases.{times-le}
@@ -11,18 +11,20 @@ use Rattle.verdict.specs.Answer.{Paper, paperFor}
 use Rattle.verdict.specs.declared.Verdict.{Verdict}
 use Rattle.verdict.specs.declared.Verdict.the-variants as verdict
 use Rattle.verdict.proofs.Verdicts.{Tabled, Refuses, refuses}
-use Rattle.verdict.proofs.Answers.{paper-told}
+use Rattle.verdict.proofs.Answers.{paper-told, answer-same}
 use Rattle.window.proofs.Views.{Agree, same-view}
 use Rattle.pattern.specs.Lines.{Lines, columns, rows, lineTotal}
 use Rattle.pattern.specs.Figures.{noFigures, figuresOf}
 use Rattle.pattern.specs.Pattern.{patternVerdict, patternFigures, patternAnswer, paperOf, patternPaper}
 use Rattle.pattern.specs.Walk.{lined, held}
 use Rattle.pattern.specs.declared.Figures.{Figures}
-use Rattle.pattern.specs.declared.Pattern.the-variants.{Measured}
+use Rattle.pattern.specs.declared.Pattern.the-variants.{Measured, Refused}
 use Rattle.pattern.proofs.Totals.{count-is, long-is, side-le, side-ge, total-le, total-flat}
 use Rattle.pattern.proofs.Figuring.{level-le, max-le, level-flat, max-flat}
+use Rattle.pattern.proofs.Deviations.{signedDeviation, GreatestSize, NoneOut, max-greatest, zero-none, none-zero}
 use Rattle.pattern.proofs.Judges.{Clean, tests, table, clean, figures-seen, answer-is}
 use Rattle.pattern.proofs.Measures.{unit-le}
+use Rattle.pattern.proofs.Negatives.{Negative, negate, negates, verdict-negative, seen-negative}
 use Rattle.pattern.proofs.Turns.{Turned, Twin, alike, moved, verdict-turned, figures-turned}
 
 -- of either call: `lines` is `columns` or `rows`
@@ -124,7 +126,35 @@ module _ (vertical : Bool) (w h full k : ℕ) (mask sums : List ℕ) (figures : 
       flat : (i : ℕ) → i < n → C i ≡ c
       flat = total-flat vertical w h (held sums) s same
 
--- ---- one call by the other
+  -- greatest: of the lines from 5 to n − 6 none has a deviation, with its sign, above Max or below −Max, and some line's is Max or −Max
+  pub greatest : GreatestSize n (figures .«max_numerator») (signedDeviation C)
+  unfolding figuresOf
+  greatest = rw are (max-greatest n C enough)
+
+  -- none-out: Max is 0 exactly where every deviation from line 5 to n − 6 is 0
+  pub none-out : (figures .«max_numerator» ≡ 0 → NoneOut n (signedDeviation C)) × (NoneOut n (signedDeviation C) → figures .«max_numerator» ≡ 0)
+  unfolding figuresOf
+  none-out = rw are (zero-none n C, none-zero n C enough)
+
+-- ---- two calls compared
+-- negative: a stack and its negative get the same answer, whatever the mask: a dark stripe counts as a bright one
+pub negative : (vertical : Bool) (w h full k : ℕ) (mask : List ℕ) {sums others : List ℕ} → Negative (k * full) sums others
+    → patternAnswer (lined vertical) w h full k mask sums ≡ patternAnswer (lined vertical) w h full k mask others
+unfolding patternAnswer
+negative vertical w h full k mask {sums} {others} n =
+    let v = verdict-negative w h full k mask n (lined vertical) in
+    rw v
+    (answer-same (patternVerdict (lined vertical) w h full k mask others) Refused (λ e.
+    ap Measured (seen-negative w h full k mask n vertical (clean vertical w h full k mask sums (v ∙ e)) (clean vertical w h full k mask others e))))
+
+-- negated: where every sum s of an accepted stack is replaced by k × full scale − s, the figures are the same
+pub negated : (vertical : Bool) (w h full k : ℕ) (mask sums : List ℕ) (figures : Figures)
+    → patternAnswer (lined vertical) w h full k mask sums ≡ Measured figures
+    → patternAnswer (lined vertical) w h full k mask (negate (k * full) sums) ≡ Measured figures
+negated vertical w h full k mask sums figures accepted =
+    let fair = passed vertical w h full k mask sums figures accepted .fair in
+    sym (negative vertical w h full k mask (negates (k * full) sums (λ i l. fair .possible i (omega (arith, fair .long))))) ∙ accepted
+
 -- turned: the vertical call of a window is the horizontal call of its transpose, but for the place of a 5
 pub record SameButPlace (p q : Paper Figures) : Type 0 where
   pub number : p .number ≡ q .number
