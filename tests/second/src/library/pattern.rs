@@ -15,7 +15,7 @@ type Call = unsafe extern "C" fn(
     place: *mut u64,
     level_numerator: *mut u64,
     level_denominator: *mut u64,
-    max_numerator: *mut i64,
+    max_numerator: *mut u64,
     max_denominator: *mut u64,
 ) -> u64;
 
@@ -32,7 +32,7 @@ extern "C" {
         place: *mut u64,
         level_numerator: *mut u64,
         level_denominator: *mut u64,
-        max_numerator: *mut i64,
+        max_numerator: *mut u64,
         max_denominator: *mut u64,
     ) -> u64;
 
@@ -48,7 +48,7 @@ extern "C" {
         place: *mut u64,
         level_numerator: *mut u64,
         level_denominator: *mut u64,
-        max_numerator: *mut i64,
+        max_numerator: *mut u64,
         max_denominator: *mut u64,
     ) -> u64;
 }
@@ -73,7 +73,7 @@ pub fn pattern_horizontal(lent: Sums) -> Answer {
 fn answer(call: Call, lent: Sums) -> Answer {
     let mut place = GARBAGE;
     let (mut level_numerator, mut level_denominator) = (GARBAGE, GARBAGE);
-    let (mut max_numerator, mut max_denominator) = (GARBAGE as i64, GARBAGE);
+    let (mut max_numerator, mut max_denominator) = (GARBAGE, GARBAGE);
     // SAFETY: each buffer is lent with its own length, and only the cells are written.
     let number = unsafe {
         call(

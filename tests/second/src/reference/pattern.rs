@@ -15,7 +15,7 @@ pub struct Sums<'a> {
     pub sums: &'a [u32],
 }
 
-/// Level numerator and denominator, Max numerator (signed) and denominator.
+/// Level numerator and denominator, Max numerator and denominator.
 pub fn pattern_vertical(sums: &Sums) -> Answer {
     settle(vertical(sums), 4)
 }
@@ -65,7 +65,7 @@ fn figures(totals: &[i128], along: usize, lent: &Sums) -> Vec<i128> {
         let step = totals[i] - totals[i + 1];
         level += step * step;
     }
-    let max = (5..=lines - 6).map(|i| deviation(totals, i)).max();
+    let max = (5..=lines - 6).map(|i| deviation(totals, i).abs()).max();
     vec![
         level,
         (lines as i128 - 1) * greatest_total * greatest_total,
@@ -87,37 +87,111 @@ fn deviation(totals: &[i128], i: usize) -> i128 {
 mod tests {
     use super::*;
 
-    /// Column (or row) `i` holds `line(i)` at each of its two sites.
-    fn both(line: impl Fn(usize) -> u32) -> (Answer, Answer) {
-        let upright: Vec<u32> = (0..24).map(|site| line(site % 12)).collect();
-        let lying: Vec<u32> = (0..24).map(|site| line(site / 2)).collect();
+    /// Column (or row) `i` of `count` holds `line(i)` at each of its `along` sites.
+    fn of_lines(
+        (count, along): (usize, usize),
+        (full_scale, frames): (u64, u64),
+        line: impl Fn(usize) -> u32,
+    ) -> (Answer, Answer) {
+        let sites = count * along;
+        let mask = vec![0; sites];
+        let upright: Vec<u32> = (0..sites).map(|site| line(site % count)).collect();
+        let lying: Vec<u32> = (0..sites).map(|site| line(site / along)).collect();
         let lent = |width, height, sums| Sums {
             width,
             height,
-            full_scale: 1023,
-            frames: 1,
-            mask: &[0; 24],
+            full_scale,
+            frames,
+            mask: &mask,
             sums,
         };
         (
-            pattern_vertical(&lent(12, 2, &upright)),
-            pattern_horizontal(&lent(2, 12, &lying)),
+            pattern_vertical(&lent(count, along, &upright)),
+            pattern_horizontal(&lent(along, count, &lying)),
         )
+    }
+
+    /// Twelve lines of two sites, as K8 has them; columns and rows give the same.
+    fn figures_of_twelve(line: impl Fn(usize) -> u32) -> Vec<i128> {
+        let (vertical, horizontal) = of_lines((12, 2), (1023, 1), line);
+        assert_eq!(vertical, horizontal);
+        assert_eq!(vertical.number, 0);
+        vertical.figures
     }
 
     #[test]
     fn k8() {
-        let (vertical, horizontal) = both(|i| if i == 6 { 110 } else { 100 });
-        assert_eq!(vertical.figures, [800, 46047276, 200, 20460]);
-        assert_eq!(horizontal, vertical);
+        let figures = figures_of_twelve(|i| if i == 6 { 110 } else { 100 });
+        assert_eq!(figures, [800, 46047276, 200, 20460]);
     }
 
-    /// R14.
+    /// Request c.
     #[test]
-    fn max_may_be_negative() {
-        let (vertical, horizontal) = both(|i| if i == 5 || i == 6 { 0 } else { 100 });
-        assert_eq!(vertical.figures[2..], [-1800, 20460]);
-        assert_eq!(horizontal, vertical);
+    fn k8_with_the_line_dark() {
+        let figures = figures_of_twelve(|i| if i == 6 { 90 } else { 100 });
+        assert_eq!(figures, [800, 46047276, 200, 20460]);
+    }
+
+    /// R14's lines: neither line that counts is above the ten around it.
+    #[test]
+    fn two_dark_lines() {
+        let figures = figures_of_twelve(|i| if i == 5 || i == 6 { 0 } else { 100 });
+        assert_eq!(figures, [80000, 46047276, 1800, 20460]);
+    }
+
+    /// Of twelve lines the sixth and the seventh count; the others only show in the ten around these.
+    #[test]
+    fn each_line_dark_or_bright() {
+        for line in 0..12 {
+            for level in [90, 110] {
+                let figures = figures_of_twelve(|i| if i == line { level } else { 100 });
+                let max = if line == 5 || line == 6 { 200 } else { 20 };
+                assert_eq!(figures[2..], [max, 20460]);
+            }
+        }
+    }
+
+    /// 10 x 20 of the greater one's own, and the 18 of the other in its ten.
+    #[test]
+    fn a_dark_line_beside_a_bright_one() {
+        for (dark, bright) in [(90, 109), (91, 110)] {
+            for (first, second) in [(dark, bright), (bright, dark)] {
+                let figures = figures_of_twelve(|i| match i {
+                    5 => first,
+                    6 => second,
+                    _ => 100,
+                });
+                assert_eq!(figures[2..], [218, 20460]);
+            }
+        }
+    }
+
+    #[test]
+    fn a_stack_and_its_negative_have_the_same_figures() {
+        let line = |i| (i * i * 89 % 1024) as u32;
+        assert_eq!(
+            figures_of_twelve(line),
+            figures_of_twelve(|i| 1023 - line(i))
+        );
+    }
+
+    #[test]
+    fn max_is_0_for_equal_lines_and_a_straight_slope() {
+        assert_eq!(figures_of_twelve(|_| 100), [0, 46047276, 0, 20460]);
+        let (up, down) = (|i| 3 * i as u32, |i| 1023 - 3 * i as u32);
+        assert_eq!(figures_of_twelve(up), [396, 46047276, 0, 20460]);
+        assert_eq!(figures_of_twelve(down), [396, 46047276, 0, 20460]);
+    }
+
+    /// One line apart from all others by all there is: Max is 1.
+    #[test]
+    fn the_greatest_max() {
+        for (one, others) in [(409_500, 0), (0, 409_500)] {
+            let line = |i| if i == 64 { one } else { others };
+            let (vertical, horizontal) = of_lines((128, 128), (4095, 100), line);
+            assert_eq!(vertical.figures[2..], [524_160_000, 524_160_000]);
+            assert_eq!(horizontal, vertical);
+        }
     }
 
     /// R6: 2 x 2 with a gap and sums too great is 8, without the gap 9; 12 x 2 is 11.
