@@ -60,6 +60,39 @@ impl Case for Pattern {
     }
 }
 
+#[derive(Clone, Copy, Debug, PartialEq)]
+enum Program {
+    Reference,
+    Library,
+}
+
+impl Program {
+    fn answer(self, stack: &mut Pattern) -> Answer {
+        match self {
+            Program::Reference => stack.reference(),
+            Program::Library => stack.library(),
+        }
+    }
+}
+
+/// A stack and its negative in one program: the stack's figures are expected of the negative.
+#[derive(Clone, Debug, PartialEq)]
+struct Negative {
+    program: Program,
+    stack: Pattern,
+    negative: Pattern,
+}
+
+impl Case for Negative {
+    fn reference(&mut self) -> Answer {
+        self.program.answer(&mut self.stack)
+    }
+
+    fn library(&mut self) -> Answer {
+        self.program.answer(&mut self.negative)
+    }
+}
+
 impl Lines {
     fn shape(self, count: usize, along: usize) -> Shape {
         match self {
@@ -130,17 +163,20 @@ fn frames(dice: &mut Dice) -> u64 {
     dice.among(&[1, any, any, 100])
 }
 
-/// Sums anywhere, near one level, or one level a line.
+/// Sums anywhere, near one level but for a dark line, near one level, or one level a line.
 fn of_sides(lines: Lines, count: usize, along: usize, dice: &mut Dice) -> Pattern {
     let (full_scale, frames) = (windows::full_scale(dice), frames(dice));
     let most = full_scale * frames;
     let levels: Vec<u64> = (0..count).map(|_| dice.between(0, most)).collect();
     let mut case = of_lines(lines, (count, along), (full_scale, frames), |i| levels[i]);
-    let style = dice.below(3);
-    for sum in case.sums.iter_mut() {
+    let shape = lines.shape(count, along);
+    let (style, dark) = (dice.below(4), dice.below(count));
+    for (site, sum) in case.sums.iter_mut().enumerate() {
+        let near = (levels[0] + dice.between(0, 9)).min(most) as u32;
         match style {
             0 => *sum = dice.between(0, most) as u32,
-            1 => *sum = (levels[0] + dice.between(0, 9)).min(most) as u32,
+            1 if lines.of_site(site, shape) == dark => *sum = near / 2,
+            1 | 2 => *sum = near,
             _ => (),
         }
     }
@@ -157,7 +193,11 @@ fn legal(lines: Lines, dice: &mut Dice) -> Pattern {
 fn round(lines: Lines, tally: &mut Tally, dice: &mut Dice) {
     published(lines, tally);
     single_lines(lines, tally, dice);
+    dark_and_bright(lines, tally, dice);
     stripes(lines, tally, dice);
+    slopes(lines, tally, dice);
+    greatest(lines, tally);
+    negatives(lines, tally, dice);
     sides(lines, tally, dice);
     sums_above(lines, tally, dice);
     codes(lines, tally, dice);
@@ -199,25 +239,18 @@ const SPOILERS: &[spoil::Spoiler<Pattern>] = &[
     |case, dice| spoil::side(&mut case.width, &mut case.height, dice),
 ];
 
-/// K8, and R14's negative Max.
+/// K8, K8 with the line dark (request c), and R14's two dark lines.
 fn published(lines: Lines, tally: &mut Tally) {
-    tally.run(of_lines(lines, (12, 2), (1023, 1), |i| {
-        if i == 6 {
-            110
-        } else {
-            100
-        }
-    }));
-    tally.run(of_lines(lines, (12, 2), (1023, 1), |i| {
-        if i == 5 || i == 6 {
-            0
-        } else {
-            100
-        }
-    }));
+    for level in [110, 90] {
+        let one = |i| if i == 6 { level } else { 100 };
+        tally.run(of_lines(lines, (12, 2), (1023, 1), one));
+    }
+    let two = |i| if i == 5 || i == 6 { 0 } else { 100 };
+    tally.run(of_lines(lines, (12, 2), (1023, 1), two));
 }
 
-/// One brighter and one darker line at every index, the five at each end included.
+/// One brighter and one darker line at every index. The five at each end do not count themselves:
+/// they show in the ten around a line that does.
 fn single_lines(lines: Lines, tally: &mut Tally, dice: &mut Dice) {
     for count in [12, 14, 26, 128] {
         let along = shapes::even(dice, 2, 6);
@@ -225,6 +258,22 @@ fn single_lines(lines: Lines, tally: &mut Tally, dice: &mut Dice) {
             for level in [90, 110] {
                 let bad = |i| if i == line { level } else { 100 };
                 tally.run(of_lines(lines, (count, along), (4095, 1), bad));
+            }
+        }
+    }
+}
+
+/// A dark and a bright line, side by side and far apart; the dark one is the greater, the bright
+/// one, or neither.
+fn dark_and_bright(lines: Lines, tally: &mut Tally, dice: &mut Dice) {
+    for count in [12, 14, 26, 128] {
+        let along = shapes::even(dice, 2, 6);
+        for (dark, bright) in [(5, count - 6), (count - 6, 5)] {
+            for (below, above) in [(10, 9), (9, 10), (10, 10)] {
+                let mut levels = vec![100; count];
+                levels[dark] -= below;
+                levels[bright] += above;
+                tally.run(of_lines(lines, (count, along), (1023, 1), |i| levels[i]));
             }
         }
     }
@@ -246,6 +295,55 @@ fn stripes(lines: Lines, tally: &mut Tally, dice: &mut Dice) {
         tally.run(of_lines(lines, (128, 2), (full_scale, frames), |i| {
             most * i as u64 / 127
         }));
+    }
+}
+
+/// Equal lines, and straight slopes up and down: Max is 0, on a slope with a level above 0.
+fn slopes(lines: Lines, tally: &mut Tally, dice: &mut Dice) {
+    for (full_scale, frames) in [(1023, 1), (4095, 100)] {
+        let most = full_scale * frames;
+        for count in [12, 14, 128] {
+            let sides = (count, shapes::even(dice, 2, 6));
+            let last = count as u64 - 1;
+            let level = dice.between(0, most);
+            tally.run(of_lines(lines, sides, (full_scale, frames), |_| level));
+            for step in [1, most / last] {
+                for start in [0, last] {
+                    let slope = |i: usize| step * start.abs_diff(i as u64);
+                    tally.run(of_lines(lines, sides, (full_scale, frames), slope));
+                }
+            }
+        }
+    }
+}
+
+/// The greatest Max there is, 524,160,000 over 524,160,000: one line bright among dark ones, and
+/// one dark among bright ones.
+fn greatest(lines: Lines, tally: &mut Tally) {
+    for line in [5, 64, 122] {
+        for (one, others) in [(409_500, 0), (0, 409_500)] {
+            let apart = |i| if i == line { one } else { others };
+            tally.run(of_lines(lines, (128, 128), (4095, 100), apart));
+        }
+    }
+}
+
+/// Every sum taken from the greatest there may be: dark turns bright, and no figure changes.
+fn negatives(lines: Lines, tally: &mut Tally, dice: &mut Dice) {
+    for _ in 0..20 {
+        let stack = tally.run(legal(lines, dice));
+        let most = (stack.full_scale * stack.frames) as u32;
+        let mut negative = stack.clone();
+        for sum in negative.sums.iter_mut() {
+            *sum = most - *sum;
+        }
+        for program in [Program::Reference, Program::Library] {
+            tally.run(Negative {
+                program,
+                stack: stack.clone(),
+                negative: negative.clone(),
+            });
+        }
     }
 }
 
