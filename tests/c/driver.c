@@ -277,13 +277,12 @@ static void stack(void)
 /* ---- tip_pattern_vertical, tip_pattern_horizontal ---- */
 
 typedef uint64_t (*pattern_call)(size_t, size_t, uint64_t, uint64_t, const uint8_t *, size_t, const uint32_t *, size_t,
-                                 uint64_t *, uint64_t *, uint64_t *, int64_t *, uint64_t *);
+                                 uint64_t *, uint64_t *, uint64_t *, uint64_t *, uint64_t *);
 
 static int has_pattern(pattern_call call, size_t width, size_t height, const uint8_t *mask, const uint32_t *sums, uint64_t number,
-                       uint64_t level, uint64_t level_under, int64_t max, uint64_t max_under)
+                       uint64_t level, uint64_t level_under, uint64_t max, uint64_t max_under)
 {
-    uint64_t at = UNWRITTEN, got_level = UNWRITTEN, got_level_under = UNWRITTEN, got_max_under = UNWRITTEN;
-    int64_t got_max = UNWRITTEN;
+    uint64_t at = UNWRITTEN, got_level = UNWRITTEN, got_level_under = UNWRITTEN, got_max = UNWRITTEN, got_max_under = UNWRITTEN;
     size_t sites = width * height;
     return call(width, height, 1023, 1, mask, sites, sums, sites, &at, &got_level, &got_level_under, &got_max, &got_max_under) == number
         && at == 0 && got_level == level && got_level_under == level_under && got_max == max && got_max_under == max_under;
@@ -293,19 +292,26 @@ static void pattern(void)
 {
     static const uint8_t surveyed[24];
     static uint8_t gap[24];
-    static uint32_t columns[24], rows[24], dark[24];
+    static uint32_t columns[24], rows[24], dark_column[24], dark_row[24], dark_columns[24];
 
     gap[23] = 1;
     for (size_t i = 0; i < 24; i++) {
         columns[i] = i % 12 == 6 ? 110 : 100;
         rows[i] = i / 2 == 6 ? 110 : 100;
-        dark[i] = i % 12 == 5 || i % 12 == 6 ? 0 : 100;
+        dark_column[i] = i % 12 == 6 ? 90 : 100;
+        dark_row[i] = i / 2 == 6 ? 90 : 100;
+        dark_columns[i] = i % 12 == 5 || i % 12 == 6 ? 0 : 100;
     }
     check("tip_pattern_vertical", "K8", has_pattern(tip_pattern_vertical, 12, 2, surveyed, columns, 0, 800, 46047276, 200, 20460));
-    check("tip_pattern_vertical", "a negative max", has_pattern(tip_pattern_vertical, 12, 2, surveyed, dark, 0, 80000, 46047276, -1800, 20460));
+    check("tip_pattern_vertical", "K8, the column dark",
+          has_pattern(tip_pattern_vertical, 12, 2, surveyed, dark_column, 0, 800, 46047276, 200, 20460));
+    check("tip_pattern_vertical", "two dark columns",
+          has_pattern(tip_pattern_vertical, 12, 2, surveyed, dark_columns, 0, 80000, 46047276, 1800, 20460));
     check("tip_pattern_vertical", "refused 8", has_pattern(tip_pattern_vertical, 12, 2, gap, columns, 8, 0, 0, 0, 0));
     check("tip_pattern_vertical", "refused 9", has_pattern(tip_pattern_vertical, 2, 12, surveyed, rows, 9, 0, 0, 0, 0));
     check("tip_pattern_horizontal", "K8 on its side", has_pattern(tip_pattern_horizontal, 2, 12, surveyed, rows, 0, 800, 46047276, 200, 20460));
+    check("tip_pattern_horizontal", "K8 on its side, the row dark",
+          has_pattern(tip_pattern_horizontal, 2, 12, surveyed, dark_row, 0, 800, 46047276, 200, 20460));
     check("tip_pattern_horizontal", "refused 9", has_pattern(tip_pattern_horizontal, 12, 2, surveyed, columns, 9, 0, 0, 0, 0));
     rows[0] = 1024;
     check("tip_pattern_horizontal", "refused 11", has_pattern(tip_pattern_horizontal, 2, 12, surveyed, rows, 11, 0, 0, 0, 0));
