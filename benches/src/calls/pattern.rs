@@ -13,7 +13,7 @@ type Pattern = unsafe extern "C" fn(
     *mut u64,
     *mut u64,
     *mut u64,
-    *mut i64,
+    *mut u64,
     *mut u64,
 ) -> u64;
 
@@ -30,7 +30,7 @@ extern "C" {
         place: *mut u64,
         level_numerator: *mut u64,
         level_denominator: *mut u64,
-        max_numerator: *mut i64,
+        max_numerator: *mut u64,
         max_denominator: *mut u64,
     ) -> u64;
     fn tip_pattern_horizontal(
@@ -45,7 +45,7 @@ extern "C" {
         place: *mut u64,
         level_numerator: *mut u64,
         level_denominator: *mut u64,
-        max_numerator: *mut i64,
+        max_numerator: *mut u64,
         max_denominator: *mut u64,
     ) -> u64;
 }
@@ -64,7 +64,7 @@ pub struct Output {
     number: u64,
     place: u64,
     level: [u64; 2],
-    max_numerator: i64,
+    max_numerator: u64,
     max_denominator: u64,
 }
 
@@ -235,10 +235,8 @@ fn answer(
         .map(|pair| pair[0].abs_diff(pair[1]).pow(2))
         .sum();
     let around = |i: usize| {
-        10 * totals[i] as i64
-            - (1..=5)
-                .map(|j| (totals[i - j] + totals[i + j]) as i64)
-                .sum::<i64>()
+        let ten: u64 = (1..=5).map(|j| totals[i - j] + totals[i + j]).sum();
+        (10 * totals[i] as i64 - ten as i64).unsigned_abs()
     };
     let max = (5..totals.len() - 5).map(around).max().unwrap_or(0);
     *output = Output {
