@@ -268,11 +268,11 @@ uint64_t tip_stack_variance(size_t width, size_t height, uint64_t full_scale, ui
  * mask code must be 0. With C the column totals of the sums, h the height, w the width and k the frame count:
  *
  *   level squared   the sum of (C[i] - C[i+1])^2, i from 0 to w-2, over (w-1) * (h * k * full_scale)^2
- *   Max             the greatest of |10 * C[i] less C[i-5..i-1] and C[i+1..i+5]|, i from 5 to w-6,
- *                   over 10 * h * k * full_scale
+ *   Max             the greatest of |10 * C[i] - S[i]|, i from 5 to w-6, over 10 * h * k * full_scale,
+ *                   where S[i] is the sum of the ten totals C[i-5..i-1] and C[i+1..i+5]
  *
- * Both are parts of full scale, from 0 to 1, given by two whole numbers each, unreduced. In Max a dark column counts as a
- * bright one does: by how far it is from the ten around it.
+ * Both are parts of full scale, from 0 to 1, given by two whole numbers each, unreduced. In Max a dark column counts
+ * as a bright one does: by how far it is from the ten around it.
  *
  *   full_scale          grey levels, 1 to 4095
  *   frames              the stack's frame count, 1 to 100
@@ -289,7 +289,7 @@ uint64_t tip_stack_variance(size_t width, size_t height, uint64_t full_scale, ui
  *   uint32_t sums[24];                 every one 100, but sums[6] and sums[18] 110
  *   uint64_t place, ln, ld, mn, md;
  *   tip_pattern_vertical(12, 2, 1023, 1, mask, 24, sums, 24, &place, &ln, &ld, &mn, &md);
- *                                      gives 0, and ln/ld is 800/46047276, mn/md is 200/20460, with 90 for 110 too
+ *                                      gives 0, and ln/ld is 800/46047276, mn/md is 200/20460; the same with 90 for 110
  */
 uint64_t tip_pattern_vertical(size_t width, size_t height, uint64_t full_scale, uint64_t frames,
                               const uint8_t *mask, size_t mask_len,
@@ -303,7 +303,7 @@ uint64_t tip_pattern_vertical(size_t width, size_t height, uint64_t full_scale, 
  * the level squared is over (height-1) * (width * k * full_scale)^2, Max is over 10 * width * k * full_scale, and 9 is
  * given where the height is below 12.
  *
- *   The window above turned on its side, 2 wide and 12 high with row 6 at 110, gives the same numbers.
+ *   The window above turned on its side, 2 wide and 12 high with row 6 at 110 or at 90, gives the same numbers.
  */
 uint64_t tip_pattern_horizontal(size_t width, size_t height, uint64_t full_scale, uint64_t frames,
                                 const uint8_t *mask, size_t mask_len,

@@ -234,11 +234,11 @@ fn answer(
         .windows(2)
         .map(|pair| pair[0].abs_diff(pair[1]).pow(2))
         .sum();
-    let around = |i: usize| {
-        let ten: u64 = (1..=5).map(|j| totals[i - j] + totals[i + j]).sum();
-        (10 * totals[i] as i64 - ten as i64).unsigned_abs()
+    let deviation = |i: usize| {
+        let around: u64 = (1..=5).map(|j| totals[i - j] + totals[i + j]).sum();
+        (10 * totals[i] as i64 - around as i64).unsigned_abs()
     };
-    let max = (5..totals.len() - 5).map(around).max().unwrap_or(0);
+    let max = (5..totals.len() - 5).map(deviation).max().unwrap_or(0);
     *output = Output {
         number: ACCEPTED.0,
         place: ACCEPTED.1,

@@ -31,8 +31,8 @@ impl PatternNoise {
 /// count:
 ///
 /// - level squared: the sum of `(C[i] - C[i+1])^2`, i from 0 to w-2, over `(w-1) * (h * k * full_scale)^2`
-/// - Max: the greatest of `|10 * C[i] less C[i-5..i-1] and C[i+1..i+5]|`, i from 5 to w-6, over
-///   `10 * h * k * full_scale`: a dark column counts as a bright one does
+/// - Max: the greatest of `|10 * C[i] - S[i]|`, i from 5 to w-6, over `10 * h * k * full_scale`, where `S[i]` is the sum
+///   of the ten totals `C[i-5..i-1]` and `C[i+1..i+5]`: a dark column counts as a bright one does
 ///
 /// What it takes:
 ///
@@ -89,10 +89,12 @@ pub fn pattern_vertical(
 /// # fn main() -> Result<(), tippovrain::Refusal> {
 /// let window = Window { width: 2, height: 12, full_scale: 1023 };
 /// let mut sums = [100; 24];
-/// (sums[12], sums[13]) = (110, 110); // row 6
-/// let noise = pattern_horizontal(window, 1, &[0; 24], &sums)?;
-/// assert_eq!(noise.level_squared.to_string(), "800/46047276");
-/// assert_eq!(noise.max.to_string(), "200/20460");
+/// for row_6 in [110, 90] {
+///     (sums[12], sums[13]) = (row_6, row_6);
+///     let noise = pattern_horizontal(window, 1, &[0; 24], &sums)?;
+///     assert_eq!(noise.level_squared.to_string(), "800/46047276");
+///     assert_eq!(noise.max.to_string(), "200/20460");
+/// }
 /// # Ok(())
 /// # }
 /// ```

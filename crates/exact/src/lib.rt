@@ -12,7 +12,7 @@ pub fn apart(a: u64, b: u64) -> u64
     if a < b { b - a } else { a - b }
 }
 
-// |z|.
+// |z|, from −1 − z where z is below 0, since the least i64 has no i64 of its size.
 pub fn size(z: i64) -> u64
     ensures { λ r. ⌜ r ≡ natAbs z ⌝ }
 {

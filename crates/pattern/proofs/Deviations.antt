@@ -33,6 +33,7 @@ abbrev pub NoneOut : ℕ → (ℕ → ℤ) → Type 0
 NoneOut n d = (i : ℕ) → 5 ≤ i → i + 6 ≤ n → d i ≡ pos 0
 
 module _ (n : ℕ) (C : ℕ → ℕ) where
+  -- no deviation is above Max
   each : (i : ℕ) → 5 ≤ i → i + 6 ≤ n → deviation C i ≤ maxOf n C
   each i p q =
       let e : i - 5 + 5 ≡ i = omega arith in
@@ -44,6 +45,7 @@ module _ (n : ℕ) (C : ℕ → ℕ) where
   zero-none z i p q = ⊖-eq (10 * C i) (tenAround C i) 0 0 (omega (arith, each i p q, z)) ∙ ⊖-zero 0
 
   module _ (low : 12 ≤ n) where
+    -- and some line's is Max
     some : Reached n (maxOf n C) (signedDeviation C)
     unfolding deviation
     some =

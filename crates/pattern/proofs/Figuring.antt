@@ -1,6 +1,6 @@
 -- The laws of the figures, over the totals as a function of the line.
 use Prim.Native.Nat.{ℕ, _+_, _-_, _*_, _<_, _≤_}
-use mathlib.Core.Path.{_≡_, ap, ap₂, _∙_}
+use mathlib.Core.Path.{_≡_, sym, ap, ap₂, _∙_}
 use native.Mathlib.Nat.{add-zero, zero-add, sub-self}
 use native.Mathlib.Omega.{arith}
 use Rattle.laws.specs.Sum.{sumTo, sumIn}
@@ -9,7 +9,7 @@ use Rattle.laws.specs.Greatest.{greater, greatestTo}
 use Rattle.laws.proofs.Greatests.{greatest-more, greatest-of, greatest-ext}
 use Rattle.laws.proofs.Cases.{times-le}
 use Rattle.laws.proofs.Sums.{sum-more, sum-ext, sum-le, sum-zero, in-ext, in-le, in-same}
-use Rattle.pattern.specs.Figures.{stepOf, levelOf, standsOut, deviation, maxOf, figuresOf}
+use Rattle.pattern.specs.Figures.{stepOf, levelOf, tenAround, standsOut, deviation, maxOf, figuresOf}
 
 -- the square of the step between two totals fits
 pub step-le : (a b : ℕ) → a ≤ 52416000 → b ≤ 52416000 → apart a b * apart a b ≤ 2747437056000000
@@ -22,6 +22,17 @@ module _ (C : ℕ → ℕ) where
   five-is a =
       let e : a + 5 - a ≡ 5 = omega arith in
       rw (e, add-zero a, zero-add (C a))
+
+  -- the ten totals around line i + 5, one by one
+  pub ten-is : (i : ℕ) → tenAround C (i + 5)
+      ≡ C i + C (i + 1) + C (i + 2) + C (i + 3) + C (i + 4) + (C (i + 6) + C (i + 7) + C (i + 8) + C (i + 9) + C (i + 10))
+  unfolding tenAround
+  ten-is i =
+      let first : i + 5 - 5 ≡ i = omega arith in
+      let next : i + 5 + 1 ≡ i + 6 = omega arith in
+      let last : i + 5 + 6 ≡ i + 6 + 5 = omega arith in
+      let at : (a b : ℕ) → i + (a + b) ≡ i + a + b = λ a b. omega arith in
+      rw (first, next, last, at 6 1, at 6 2, at 6 3, at 6 4) (ap₂ (λ (x y : ℕ). x + y) (sym (five-is i)) (sym (five-is (i + 6))))
 
   -- a deviation by the five before and the five after
   pub deviation-is : (i before after : ℕ) → 5 ≤ i → before ≡ sumIn (i - 5) (i - 5 + 5) C → after ≡ sumIn (i + 1) (i + 1 + 5) C

@@ -279,7 +279,7 @@ fn dark_and_bright(lines: Lines, tally: &mut Tally, dice: &mut Dice) {
     }
 }
 
-/// Full swing between neighbouring lines, in steps of one to six lines, and slopes.
+/// Full swing between stripes of one to six lines, and a slope in rounded steps.
 fn stripes(lines: Lines, tally: &mut Tally, dice: &mut Dice) {
     for (full_scale, frames) in [(1, 1), (1, 100), (1023, 2), (4095, 1), (4095, 100)] {
         let most = full_scale * frames;
