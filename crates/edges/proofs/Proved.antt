@@ -2,7 +2,7 @@
 use mathlib.Core.Path.{refl}
 use lib.Ieee.{round, ofBits}
 use Rattle.laws.specs.First.{firstTo}
-use Rattle.laws.specs.Greatest.{greatestTo}
+use Rattle.laws.specs.Greatest.{greatestTo, greatestIn}
 use Rattle.laws.specs.Signed.{_⊖_, sumToℤ}
 use Rattle.laws.specs.Sum.{sumTo, sumIn, sumBox}
 use Rattle.laws.specs.Table.{tabulate}
@@ -27,7 +27,7 @@ use Rattle.lines.specs.Marks.{linesVerdict, linesAnswer, linesBuffer}
 use Rattle.edges.specs.Table.{Edges, Beside}
 
 pub edges : Edges
-unfolding round ofBits firstTo greatestTo _⊖_ sumToℤ sumTo sumIn sumBox tabulate shapeOf maskVerdict frameVerdict boxSum badSide badSides badScale sitesOf _⨟_ refuseIf refuseFirst seenAt seen one root rootTo joined sampleAt unpackVerdict unpackAnswer unpackBuffer numerator spreadOf framesVerdict pairVerdict varianceAnswer noiseAnswer aboveBlack darkVerdict darkAnswer nearSum usedThreshold far foundAt markedAt foundCount findVerdict findAnswer findMask lineTotal stepOf tenAround standsOut deviation figuresOf badCount patternVerdict patternAnswer before after pooled defective markOf markAt linesVerdict linesAnswer linesBuffer
+unfolding round ofBits firstTo greatestTo greatestIn _⊖_ sumToℤ sumTo sumIn sumBox tabulate shapeOf maskVerdict frameVerdict boxSum badSide badSides badScale sitesOf _⨟_ refuseIf refuseFirst seenAt seen one root rootTo joined sampleAt unpackVerdict unpackAnswer unpackBuffer numerator spreadOf framesVerdict pairVerdict varianceAnswer noiseAnswer aboveBlack darkVerdict darkAnswer nearSum usedThreshold far foundAt markedAt foundCount findVerdict findAnswer findMask lineTotal stepOf tenAround standsOut deviation figuresOf badCount patternVerdict patternAnswer before after pooled defective markOf markAt linesVerdict linesAnswer linesBuffer
 edges = record {
   K1 = (refl, refl, refl);
   K2 = (refl, refl, refl);
@@ -42,5 +42,5 @@ edges = record {
 }
 
 pub beside : Beside
-unfolding firstTo greatestTo sumTo sumIn sumBox tabulate shapeOf maskVerdict frameVerdict boxSum badSide badSides badScale sitesOf _⨟_ refuseIf refuseFirst seenAt seen one lineTotal stepOf tenAround standsOut deviation figuresOf badCount patternVerdict patternAnswer before after pooled defective markOf markAt linesVerdict linesBuffer
+unfolding firstTo greatestTo greatestIn sumTo sumIn sumBox tabulate shapeOf maskVerdict frameVerdict boxSum badSide badSides badScale sitesOf _⨟_ refuseIf refuseFirst seenAt seen one lineTotal stepOf tenAround standsOut deviation figuresOf badCount patternVerdict patternAnswer before after pooled defective markOf markAt linesVerdict linesBuffer
 beside = record { dark-column = refl; dark-row = refl; dark-columns = refl; met-unmarked = refl; met-marked = refl }

@@ -1,13 +1,13 @@
--- The laws of `greatestTo`.
-use Prim.Native.Nat.{ℕ, zero, suc, _+_, _≤_}
+-- The laws of the greatest of some numbers.
+use Prim.Native.Nat.{ℕ, zero, suc, _+_, _-_, _<_, _≤_}
 use mathlib.Core.Bool.{Bool, true, false, cond}
 use mathlib.Core.Logic.{⊎-elim}
-use mathlib.Core.Path.{_≡_, refl, ap₂}
-use native.Mathlib.Numerals.{add-one}
+use mathlib.Core.Path.{_≡_, ap₂}
+use native.Mathlib.Nat.{add-zero}
 use native.Mathlib.Omega.{arith}
 use lib.Dec.{ltb}
 use borrow.Author.Tests.{ltb-true, ltb-false}
-use Rattle.laws.specs.Greatest.{greater, greatestTo}
+use Rattle.laws.specs.Greatest.{greater, greatestTo, greatestIn}
 use Rattle.laws.proofs.Cases.{lt-or-ge, true-or-false}
 
 -- neither of two is above the greater
@@ -17,39 +17,59 @@ left-le x y = ⊎-elim (λ t. rw t (omega (arith, ltb-true x y t))) (λ f. rw f 
 right-le : (x y : ℕ) → y ≤ greater x y
 right-le x y = ⊎-elim (λ t. rw t (omega arith)) (λ f. rw f (omega (arith, ltb-false x y f))) (true-or-false (ltb x y))
 
-module _ (f : ℕ → ℕ) where
+-- ---- of f 0 to f n
+to-of : (f : ℕ → ℕ) (P : ℕ → Type 0) (n : ℕ) → ((k : ℕ) → k ≤ n → P (f k)) → P (greatestTo n f)
+unfolding greatestTo
+to-of f P zero h = h 0 (omega arith)
+to-of f P (suc n) h = by (ltb (greatestTo n f) (f (suc n))) (to-of f P n (λ k l. h k (omega arith)))
+  where
+    by : (b : Bool) → P (greatestTo n f) → P (cond b (f (suc n)) (greatestTo n f))
+    by true before = h (suc n) (omega arith)
+    by false before = before
+
+to-le : (f : ℕ → ℕ) (n k : ℕ) → k ≤ n → f k ≤ greatestTo n f
+unfolding greatestTo
+to-le f zero k l = let e : k ≡ 0 = omega arith in rw e (omega arith)
+to-le f (suc n) k l =
+    ⊎-elim
+    (λ before. omega (arith, to-le f n k (omega arith), left-le (greatestTo n f) (f (suc n))))
+    (λ after. let e : k ≡ suc n = omega arith in rw e (right-le (greatestTo n f) (f (suc n))))
+    (lt-or-ge k (suc n))
+
+to-ext : (n : ℕ) (f g : ℕ → ℕ) → ((k : ℕ) → k ≤ n → f k ≡ g k) → greatestTo n f ≡ greatestTo n g
+unfolding greatestTo
+to-ext zero f g h = h 0 (omega arith)
+to-ext (suc n) f g h = ap₂ greater (to-ext n f g (λ k l. h k (omega arith))) (h (suc n) (omega arith))
+
+-- ---- of f k for a ≤ k < b
+module _ (a : ℕ) (f : ℕ → ℕ) where
   -- where a search for the greatest begins
-  pub greatest-none : f 0 ≡ greatestTo 0 f
-  unfolding greatestTo
-  greatest-none = refl
+  pub greatest-one : f a ≡ greatestIn a (a + 1) f
+  unfolding greatestIn
+  greatest-one = let e : a + 1 - a - 1 ≡ 0 = omega arith in rw (e, add-zero a)
 
   -- a turn of it
-  pub greatest-more : (n : ℕ) → greater (greatestTo n f) (f (n + 1)) ≡ greatestTo (n + 1) f
-  unfolding greatestTo
-  greatest-more n = rw (add-one n)
+  pub greatest-more : (i : ℕ) → a < i → greater (greatestIn a i f) (f i) ≡ greatestIn a (i + 1) f
+  unfolding greatestIn
+  greatest-more i l =
+      let e : i + 1 - a - 1 ≡ suc (i - a - 1) = omega arith in
+      let last : a + suc (i - a - 1) ≡ i = omega arith in
+      rw (e, last)
 
+module _ (a b : ℕ) (some : a < b) where
   -- what holds of each holds of the greatest
-  pub greatest-of : (P : ℕ → Type 0) (n : ℕ) → ((k : ℕ) → k ≤ n → P (f k)) → P (greatestTo n f)
-  unfolding greatestTo
-  greatest-of P zero h = h 0 (omega arith)
-  greatest-of P (suc n) h = by (ltb (greatestTo n f) (f (suc n))) (greatest-of P n (λ k l. h k (omega arith)))
-    where
-      by : (b : Bool) → P (greatestTo n f) → P (cond b (f (suc n)) (greatestTo n f))
-      by true before = h (suc n) (omega arith)
-      by false before = before
+  pub greatest-of : (f : ℕ → ℕ) (P : ℕ → Type 0) → ((k : ℕ) → a ≤ k → k < b → P (f k)) → P (greatestIn a b f)
+  unfolding greatestIn
+  greatest-of f P h = to-of (λ (k : ℕ). f (a + k)) P (b - a - 1) (λ k l. h (a + k) (omega arith) (omega arith))
 
-  -- and none of them is above it
-  pub greatest-le : (n k : ℕ) → k ≤ n → f k ≤ greatestTo n f
-  unfolding greatestTo
-  greatest-le zero k l = let e : k ≡ 0 = omega arith in rw e (omega arith)
-  greatest-le (suc n) k l =
-      ⊎-elim
-      (λ before. omega (arith, greatest-le n k (omega arith), left-le (greatestTo n f) (f (suc n))))
-      (λ after. let e : k ≡ suc n = omega arith in rw e (right-le (greatestTo n f) (f (suc n))))
-      (lt-or-ge k (suc n))
+  -- of functions that agree there
+  pub greatest-ext : (f g : ℕ → ℕ) → ((k : ℕ) → a ≤ k → k < b → f k ≡ g k) → greatestIn a b f ≡ greatestIn a b g
+  unfolding greatestIn
+  greatest-ext f g h = to-ext (b - a - 1) (λ (k : ℕ). f (a + k)) (λ (k : ℕ). g (a + k)) (λ k l. h (a + k) (omega arith) (omega arith))
 
--- of functions that agree up to n
-pub greatest-ext : (n : ℕ) (f g : ℕ → ℕ) → ((k : ℕ) → k ≤ n → f k ≡ g k) → greatestTo n f ≡ greatestTo n g
-unfolding greatestTo
-greatest-ext zero f g h = h 0 (omega arith)
-greatest-ext (suc n) f g h = ap₂ greater (greatest-ext n f g (λ k l. h k (omega arith))) (h (suc n) (omega arith))
+-- none of them is above it
+pub greatest-le : (a b : ℕ) (f : ℕ → ℕ) (k : ℕ) → a ≤ k → k < b → f k ≤ greatestIn a b f
+unfolding greatestIn
+greatest-le a b f k p q =
+    let e : a + (k - a) ≡ k = omega arith in
+    rw e at (to-le (λ (k : ℕ). f (a + k)) (b - a - 1) (k - a) (omega arith))

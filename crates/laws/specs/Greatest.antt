@@ -1,5 +1,5 @@
 -- The greatest of whole numbers.
-use Prim.Native.Nat.{ℕ, zero, suc}
+use Prim.Native.Nat.{ℕ, zero, suc, _+_, _-_}
 use mathlib.Core.Bool.{cond}
 use lib.Dec.{ltb}
 
@@ -11,3 +11,8 @@ greater x y = cond (ltb x y) y x
 unfoldable pub greatestTo : ℕ → (ℕ → ℕ) → ℕ
 greatestTo zero f = f 0
 greatestTo (suc n) f = greater (greatestTo n f) (f (suc n))
+
+-- the greatest of f k for a ≤ k < b, where a is below b
+unfoldable pub greatestIn : ℕ → ℕ → (ℕ → ℕ) → ℕ
+unfolding greatestTo
+greatestIn a b f = greatestTo (b - a - 1) (λ (k : ℕ). f (a + k))

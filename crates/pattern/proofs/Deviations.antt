@@ -7,9 +7,10 @@ use native.Mathlib.Omega.{arith}
 use lib.IntN.{ℤ, pos, natAbs, negℤ}
 use lib.Signed.{ltZ}
 use Rattle.laws.specs.Signed.{_⊖_}
-use Rattle.laws.proofs.Greatests.{greatest-of, greatest-le}
+use Rattle.laws.proofs.Greatests.{greatest-le}
 use Rattle.laws.proofs.Signeds.{⊖-eq, ⊖-zero, ⊖-size, ⊖-either, ⊖-up-to, ⊖-down-to}
 use Rattle.pattern.specs.Figures.{tenAround, deviation, maxOf}
+use Rattle.pattern.proofs.Figuring.{max-of}
 
 -- 10 × C[i] less the ten totals around line i, with its sign
 abbrev pub signedDeviation : (ℕ → ℕ) → ℕ → ℤ
@@ -35,34 +36,24 @@ NoneOut n d = (i : ℕ) → 5 ≤ i → i + 6 ≤ n → d i ≡ pos 0
 module _ (n : ℕ) (C : ℕ → ℕ) where
   -- no deviation is above Max
   each : (i : ℕ) → 5 ≤ i → i + 6 ≤ n → deviation C i ≤ maxOf n C
-  each i p q =
-      let e : i - 5 + 5 ≡ i = omega arith in
-      rw e at (greatest-le (λ (j : ℕ). deviation C (j + 5)) (n - 11) (i - 5) (omega arith))
+  each i p q = greatest-le 5 (n - 5) (deviation C) i p (omega arith)
 
-  -- Max is 0 only where no line stands out
+  -- so it is 0 only where no line stands out
   pub zero-none : maxOf n C ≡ 0 → NoneOut n (signedDeviation C)
   unfolding deviation
   zero-none z i p q = ⊖-eq (10 * C i) (tenAround C i) 0 0 (omega (arith, each i p q, z)) ∙ ⊖-zero 0
 
   module _ (low : 12 ≤ n) where
-    -- and some line's is Max
-    some : Reached n (maxOf n C) (signedDeviation C)
-    unfolding deviation
-    some =
-        greatest-of (λ (j : ℕ). deviation C (j + 5)) (λ (m : ℕ). Reached n m (signedDeviation C)) (n - 11)
-        (λ j l. record { line = j + 5; first = omega arith; last = omega arith; is = ⊖-either (10 * C (j + 5)) (tenAround C (j + 5)) })
-
     pub max-greatest : GreatestSize n (maxOf n C) (signedDeviation C)
     unfolding deviation
     max-greatest = record {
       not-above = λ i p q. ⊖-up-to (10 * C i) (tenAround C i) (maxOf n C) (each i p q);
       not-below = λ i p q. ⊖-down-to (10 * C i) (tenAround C i) (maxOf n C) (each i p q);
-      reached = some;
+      reached = max-of n C low (λ (m : ℕ). Reached n m (signedDeviation C)) (λ i p q. record { line = i; first = p; last = q; is = ⊖-either (10 * C i) (tenAround C i) });
     }
 
     -- and it is 0 there
     pub none-zero : NoneOut n (signedDeviation C) → maxOf n C ≡ 0
     unfolding deviation
     none-zero none =
-        greatest-of (λ (j : ℕ). deviation C (j + 5)) (λ (m : ℕ). m ≡ 0) (n - 11)
-        (λ j l. sym (⊖-size (10 * C (j + 5)) (tenAround C (j + 5))) ∙ ap natAbs (none (j + 5) (omega arith) (omega arith)))
+        max-of n C low (λ (m : ℕ). m ≡ 0) (λ i p q. sym (⊖-size (10 * C i) (tenAround C i)) ∙ ap natAbs (none i p q))

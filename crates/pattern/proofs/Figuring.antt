@@ -5,10 +5,9 @@ use native.Mathlib.Nat.{add-zero, zero-add, sub-self}
 use native.Mathlib.Omega.{arith}
 use Rattle.laws.specs.Sum.{sumTo, sumIn}
 use Rattle.laws.specs.Signed.{apart}
-use Rattle.laws.specs.Greatest.{greater, greatestTo}
-use Rattle.laws.proofs.Greatests.{greatest-more, greatest-of, greatest-ext}
+use Rattle.laws.proofs.Greatests.{greatest-of, greatest-ext}
 use Rattle.laws.proofs.Cases.{times-le}
-use Rattle.laws.proofs.Sums.{sum-more, sum-ext, sum-le, sum-zero, in-ext, in-le, in-same}
+use Rattle.laws.proofs.Sums.{sum-more, sum-ext, sum-le, sum-zero, in-ext, in-same, in-shift}
 use Rattle.pattern.specs.Figures.{stepOf, levelOf, tenAround, standsOut, deviation, maxOf, figuresOf}
 
 -- the square of the step between two totals fits
@@ -23,35 +22,28 @@ module _ (C : ℕ → ℕ) where
       let e : a + 5 - a ≡ 5 = omega arith in
       rw (e, add-zero a, zero-add (C a))
 
-  -- the ten totals around line i + 5, one by one
-  pub ten-is : (i : ℕ) → tenAround C (i + 5)
-      ≡ C i + C (i + 1) + C (i + 2) + C (i + 3) + C (i + 4) + (C (i + 6) + C (i + 7) + C (i + 8) + C (i + 9) + C (i + 10))
+  -- the ten around a line are the five before it and the five after it
+  ten-by : (i before after : ℕ) → 5 ≤ i → before ≡ sumIn (i - 5) (i - 5 + 5) C → after ≡ sumIn (i + 1) (i + 1 + 5) C → before + after ≡ tenAround C i
   unfolding tenAround
-  ten-is i =
-      let first : i + 5 - 5 ≡ i = omega arith in
-      let next : i + 5 + 1 ≡ i + 6 = omega arith in
-      let last : i + 5 + 6 ≡ i + 6 + 5 = omega arith in
-      let at : (a b : ℕ) → i + (a + b) ≡ i + a + b = λ a b. omega arith in
-      rw (first, next, last, at 6 1, at 6 2, at 6 3, at 6 4) (ap₂ (λ (x y : ℕ). x + y) (sym (five-is i)) (sym (five-is (i + 6))))
+  ten-by i before after l p q =
+      let e : i - 5 + 5 ≡ i = omega arith in
+      let f : i + 1 + 5 ≡ i + 6 = omega arith in
+      ap₂ (λ (x y : ℕ). x + y) (p ∙ ap (λ (n : ℕ). sumIn (i - 5) n C) e) (q ∙ ap (λ (n : ℕ). sumIn (i + 1) n C) f)
 
-  -- a deviation by the five before and the five after
   pub deviation-is : (i before after : ℕ) → 5 ≤ i → before ≡ sumIn (i - 5) (i - 5 + 5) C → after ≡ sumIn (i + 1) (i + 1 + 5) C
       → standsOut (10 * C i) (before + after) ≡ deviation C i
   unfolding deviation
-  deviation-is i before after l p q =
-      let e : i - 5 + 5 ≡ i = omega arith in
-      let f : i + 1 + 5 ≡ i + 6 = omega arith in
-      ap (standsOut (10 * C i)) (ap₂ (λ (x y : ℕ). x + y) (p ∙ ap (λ (n : ℕ). sumIn (i - 5) n C) e) (q ∙ ap (λ (n : ℕ). sumIn (i + 1) n C) f))
+  deviation-is i before after l p q = ap (standsOut (10 * C i)) (ten-by i before after l p q)
 
-  -- a turn of the search for the greatest of them
-  pub max-more : (i best here : ℕ) → 6 ≤ i → best ≡ greatestTo (i - 6) (λ (j : ℕ). deviation C (j + 5)) → here ≡ deviation C i
-      → greater best here ≡ greatestTo (i + 1 - 6) (λ (j : ℕ). deviation C (j + 5))
-  max-more i best here l p q =
-      let e : i - 6 + 1 ≡ i + 1 - 6 = omega arith in
-      let f : i ≡ i - 6 + 1 + 5 = omega arith in
-      ap₂ greater p (q ∙ ap (deviation C) f)
-      ∙ greatest-more (λ (j : ℕ). deviation C (j + 5)) (i - 6)
-      ∙ ap (λ (n : ℕ). greatestTo n (λ (j : ℕ). deviation C (j + 5))) e
+  -- one by one
+  pub ten-is : (i : ℕ) → 5 ≤ i
+      → tenAround C i
+      ≡ C (i - 5) + C (i - 4) + C (i - 3) + C (i - 2) + C (i - 1) + (C (i + 1) + C (i + 2) + C (i + 3) + C (i + 4) + C (i + 5))
+  ten-is i l =
+      let down : (a b : ℕ) → a + b ≡ 5 → i - a ≡ i - 5 + b = λ a b e. omega arith in
+      let up : (b : ℕ) → i + (1 + b) ≡ i + 1 + b = λ b. omega arith in
+      rw (down 4 1 (omega arith), down 3 2 (omega arith), down 2 3 (omega arith), down 1 4 (omega arith), up 1, up 2, up 3, up 4)
+      (sym (ten-by i _ _ l (five-is (i - 5)) (five-is (i + 1))))
 
   -- a turn of the sum of squared steps
   pub level-more : (i sum square : ℕ) → sum ≡ sumTo i (stepOf C) → square ≡ apart (C i) (C (i + 1)) * apart (C i) (C (i + 1))
@@ -59,13 +51,29 @@ module _ (C : ℕ → ℕ) where
   unfolding stepOf
   level-more i sum square p q = ap₂ (λ (x y : ℕ). x + y) p q ∙ sum-more i (stepOf C)
 
+-- totals that add up to `unit` line by line do so ten times around a line
+module _ (n unit : ℕ) (C D : ℕ → ℕ) (both : (i : ℕ) → i < n → C i + D i ≡ unit) where
+  five-both : (a b : ℕ) → b - a ≡ 5 → b ≤ n → sumIn a b C + sumIn a b D ≡ 5 * unit
+  five-both a b e l =
+      let made = in-shift a b 0 1 D (λ (k : ℕ). unit) C (λ k p q. omega (arith, both k (omega arith))) in
+      let same = rw e at (in-same a b unit (λ (k : ℕ). unit) (λ k p q. omega arith)) in
+      omega (arith, made, same)
+
+  pub ten-both : (i : ℕ) → 5 ≤ i → i + 6 ≤ n → tenAround C i + tenAround D i ≡ 10 * unit
+  unfolding tenAround
+  ten-both i p q = omega (arith, five-both (i - 5) i (omega arith) (omega arith), five-both (i + 1) (i + 6) (omega arith) (omega arith))
+
+-- what holds of each deviation holds of Max
+pub max-of : (n : ℕ) (C : ℕ → ℕ) → 12 ≤ n → (P : ℕ → Type 0) → ((i : ℕ) → 5 ≤ i → i + 6 ≤ n → P (deviation C i)) → P (maxOf n C)
+max-of n C low P h = greatest-of 5 (n - 5) (omega arith) (deviation C) P (λ i p q. h i p (omega arith))
+
 -- equal steps and equal deviations make equal figures
-pub figures-same : (n unit : ℕ) (C D : ℕ → ℕ) → ((i : ℕ) → i < n - 1 → stepOf C i ≡ stepOf D i)
-    → ((j : ℕ) → j ≤ n - 11 → deviation C (j + 5) ≡ deviation D (j + 5)) → figuresOf n unit C ≡ figuresOf n unit D
+pub figures-same : (n unit : ℕ) (C D : ℕ → ℕ) → 12 ≤ n → ((i : ℕ) → i < n - 1 → stepOf C i ≡ stepOf D i)
+    → ((i : ℕ) → 5 ≤ i → i + 6 ≤ n → deviation C i ≡ deviation D i) → figuresOf n unit C ≡ figuresOf n unit D
 unfolding figuresOf
-figures-same n unit C D steps deviations =
+figures-same n unit C D low steps deviations =
     let level = sum-ext (n - 1) (stepOf C) (stepOf D) steps in
-    let max = greatest-ext (n - 11) (λ (j : ℕ). deviation C (j + 5)) (λ (j : ℕ). deviation D (j + 5)) deviations in
+    let max = greatest-ext 5 (n - 5) (omega arith) (deviation C) (deviation D) (λ i p q. deviations i p (omega arith)) in
     rw (level, max)
 
 -- so the figures look at no total but the n lines'
@@ -74,15 +82,15 @@ module _ (n : ℕ) (C D : ℕ → ℕ) (low : 12 ≤ n) (same : (i : ℕ) → i 
   unfolding stepOf
   step-ext i l = rw (same i (omega arith), same (i + 1) (omega arith))
 
-  deviation-ext : (j : ℕ) → j ≤ n - 11 → deviation C (j + 5) ≡ deviation D (j + 5)
+  deviation-ext : (i : ℕ) → 5 ≤ i → i + 6 ≤ n → deviation C i ≡ deviation D i
   unfolding deviation
-  deviation-ext j l =
-      let before = in-ext (j + 5 - 5) (j + 5) C D (λ k p q. same k (omega arith)) in
-      let after = in-ext (j + 5 + 1) (j + 5 + 6) C D (λ k p q. same k (omega arith)) in
-      rw (same (j + 5) (omega arith), before, after)
+  deviation-ext i p q =
+      let before = in-ext (i - 5) i C D (λ k l m. same k (omega arith)) in
+      let after = in-ext (i + 1) (i + 6) C D (λ k l m. same k (omega arith)) in
+      rw (same i (omega arith), before, after)
 
   pub figures-ext : (unit : ℕ) → figuresOf n unit C ≡ figuresOf n unit D
-  figures-ext unit = figures-same n unit C D step-ext deviation-ext
+  figures-ext unit = figures-same n unit C D low step-ext deviation-ext
 
 -- totals of at most `unit` have figures of at most 1
 module _ (n unit : ℕ) (C : ℕ → ℕ) (low : 12 ≤ n) (small : (i : ℕ) → i < n → C i ≤ unit) where
@@ -95,18 +103,13 @@ module _ (n unit : ℕ) (C : ℕ → ℕ) (low : 12 ≤ n) (small : (i : ℕ) �
   pub level-le : levelOf n C ≤ (n - 1) * (unit * unit)
   level-le = sum-le (n - 1) (unit * unit) (stepOf C) step-small
 
-  five-small : (a b : ℕ) → b - a ≡ 5 → b ≤ n → sumIn a b C ≤ 5 * unit
-  five-small a b e l = rw e at (in-le a b unit C (λ k p q. small k (omega arith)))
-
-  deviation-small : (j : ℕ) → j ≤ n - 11 → deviation C (j + 5) ≤ 10 * unit
+  deviation-small : (i : ℕ) → 5 ≤ i → i + 6 ≤ n → deviation C i ≤ 10 * unit
   unfolding deviation
-  deviation-small j l =
-      let before = five-small (j + 5 - 5) (j + 5) (omega arith) (omega arith) in
-      let after = five-small (j + 5 + 1) (j + 5 + 6) (omega arith) (omega arith) in
-      omega (arith, small (j + 5) (omega arith), before, after)
+  deviation-small i p q =
+      omega (arith, small i (omega arith), ten-both n unit C (λ (k : ℕ). unit - C k) (λ k l. omega (arith, small k l)) i p q)
 
   pub max-le : maxOf n C ≤ 10 * unit
-  max-le = greatest-of (λ (j : ℕ). deviation C (j + 5)) (λ (m : ℕ). m ≤ 10 * unit) (n - 11) deviation-small
+  max-le = max-of n C low (λ (m : ℕ). m ≤ 10 * unit) deviation-small
 
 -- equal totals have none
 module _ (n c : ℕ) (C : ℕ → ℕ) (low : 12 ≤ n) (same : (i : ℕ) → i < n → C i ≡ c) where
@@ -117,15 +120,9 @@ module _ (n c : ℕ) (C : ℕ → ℕ) (low : 12 ≤ n) (same : (i : ℕ) → i 
   pub level-flat : levelOf n C ≡ 0
   level-flat = sum-zero (n - 1) (stepOf C) step-flat
 
-  five-flat : (a b : ℕ) → b - a ≡ 5 → b ≤ n → sumIn a b C ≡ 5 * c
-  five-flat a b e l = rw e at (in-same a b c C (λ k p q. same k (omega arith)))
-
-  deviation-flat : (j : ℕ) → j ≤ n - 11 → deviation C (j + 5) ≡ 0
+  deviation-flat : (i : ℕ) → 5 ≤ i → i + 6 ≤ n → deviation C i ≡ 0
   unfolding deviation
-  deviation-flat j l =
-      let before = five-flat (j + 5 - 5) (j + 5) (omega arith) (omega arith) in
-      let after = five-flat (j + 5 + 1) (j + 5 + 6) (omega arith) (omega arith) in
-      omega (arith, same (j + 5) (omega arith), before, after)
+  deviation-flat i p q = omega (arith, same i (omega arith), ten-both n (2 * c) C C (λ k l. omega (arith, same k l)) i p q)
 
   pub max-flat : maxOf n C ≡ 0
-  max-flat = greatest-of (λ (j : ℕ). deviation C (j + 5)) (λ (m : ℕ). m ≡ 0) (n - 11) deviation-flat
+  max-flat = max-of n C low (λ (m : ℕ). m ≡ 0) deviation-flat

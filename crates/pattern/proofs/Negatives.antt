@@ -9,11 +9,10 @@ use lib.ListN.{length, List·getD-eq-default}
 use borrow.Author.Tests.{le-ltb}
 use Rattle.laws.specs.First.{someTo}
 use Rattle.laws.specs.Signed.{apart}
-use Rattle.laws.specs.Sum.{sumIn}
 use Rattle.laws.specs.Table.{tabulate}
 use Rattle.laws.proofs.Cases.{lt-or-ge}
 use Rattle.laws.proofs.Firsts.{nowhere-first}
-use Rattle.laws.proofs.Sums.{sum-add, in-same, in-shift}
+use Rattle.laws.proofs.Sums.{sum-add}
 use Rattle.laws.proofs.Tables.{length-tabulate, getD-tabulate}
 use Rattle.window.specs.Shape.{sitesOf}
 use Rattle.window.specs.View.{seen, above}
@@ -23,7 +22,7 @@ use Rattle.pattern.specs.Figures.{stepOf, deviation, figuresOf}
 use Rattle.pattern.specs.Pattern.{patternVerdict, patternFigures}
 use Rattle.pattern.specs.Walk.{lined, held}
 use Rattle.pattern.proofs.Totals.{count-is, total-flat}
-use Rattle.pattern.proofs.Figuring.{figures-same}
+use Rattle.pattern.proofs.Figuring.{figures-same, ten-both}
 use Rattle.pattern.proofs.Judges.{Clean, figures-seen}
 
 -- b is the negative of a: at every site the two sums add up to `most`, which is k × full scale
@@ -49,21 +48,12 @@ module _ (n unit : ℕ) (C D : ℕ → ℕ) (low : 12 ≤ n) (both : (i : ℕ) �
       let e : apart (C i) (C (i + 1)) ≡ apart (D i) (D (i + 1)) = omega (arith, both i (omega arith), both (i + 1) (omega arith)) in
       ap (λ (d : ℕ). d * d) e
 
-  five-negative : (a b : ℕ) → b - a ≡ 5 → b ≤ n → sumIn a b C + sumIn a b D ≡ 5 * unit
-  five-negative a b e l =
-      let made = in-shift a b 0 1 D (λ (k : ℕ). unit) C (λ k p q. omega (arith, both k (omega arith))) in
-      let same = rw e at (in-same a b unit (λ (k : ℕ). unit) (λ k p q. omega arith)) in
-      omega (arith, made, same)
-
-  deviation-negative : (j : ℕ) → j ≤ n - 11 → deviation C (j + 5) ≡ deviation D (j + 5)
+  deviation-negative : (i : ℕ) → 5 ≤ i → i + 6 ≤ n → deviation C i ≡ deviation D i
   unfolding deviation
-  deviation-negative j l =
-      let before = five-negative (j + 5 - 5) (j + 5) (omega arith) (omega arith) in
-      let after = five-negative (j + 5 + 1) (j + 5 + 6) (omega arith) (omega arith) in
-      omega (arith, both (j + 5) (omega arith), before, after)
+  deviation-negative i p q = omega (arith, both i (omega arith), ten-both n unit C D both i p q)
 
   pub figures-negative : (m : ℕ) → figuresOf n m C ≡ figuresOf n m D
-  figures-negative m = figures-same n m C D step-negative deviation-negative
+  figures-negative m = figures-same n m C D low step-negative deviation-negative
 
 -- the two totals of a line add up to its number of sites times `most`
 total-negative : (vertical : Bool) (w h most : ℕ) (view other : ℕ → ℕ) → ((k : ℕ) → k < h * w → view k + other k ≡ most) → (i : ℕ) → i < lined vertical w h .count

@@ -1,7 +1,7 @@
 -- Document 01, "Pattern noise", as document 02 c amends it: the figures of n lines with totals C, where `unit` is the sites of a line × k × full scale.
 use Prim.Native.Nat.{ℕ, _+_, _-_, _*_}
 use Rattle.laws.specs.Sum.{sumTo, sumIn}
-use Rattle.laws.specs.Greatest.{greatestTo}
+use Rattle.laws.specs.Greatest.{greatestIn}
 use Rattle.laws.specs.Signed.{apart}
 use Rattle.pattern.specs.declared.Figures.{Figures}
 
@@ -28,7 +28,7 @@ deviation C i = standsOut (10 * C i) (tenAround C i)
 
 -- the greatest of these for i from 5 to n−6
 abbrev pub maxOf : ℕ → (ℕ → ℕ) → ℕ
-maxOf n C = greatestTo (n - 11) (λ (j : ℕ). deviation C (j + 5))
+maxOf n C = greatestIn 5 (n - 5) (deviation C)
 
 -- level squared over (n−1) × unit², and Max over 10 × unit
 unfoldable pub figuresOf : ℕ → ℕ → (ℕ → ℕ) → Figures

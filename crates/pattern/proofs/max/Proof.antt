@@ -1,18 +1,17 @@
 -- `max` is right because it begins with the first deviation and each turn takes the greater of what it has and the next.
-use Prim.Native.Nat.{ℕ, _+_, _-_, _≤_}
-use mathlib.Core.Path.{_≡_, refl, ap, _∙_}
+use Prim.Native.Nat.{ℕ, _-_, _≤_}
+use mathlib.Core.Path.{_≡_, refl, ap, ap₂, _∙_}
 use native.Mathlib.Omega.{arith}
 use borrow.Author.Needs.{needs}
-use Rattle.laws.proofs.Greatests.{greatest-none}
-use Rattle.laws.specs.Greatest.{greatestTo}
-use Rattle.pattern.proofs.Figuring.{max-more}
+use Rattle.laws.proofs.Greatests.{greatest-one, greatest-more}
+use Rattle.laws.specs.Greatest.{greater, greatestIn}
 use Rattle.pattern.specs.Figures.{deviation}
 use Rattle.pattern.specs.Walk.{held}
 use Rattle.pattern.proofs.max.Statement.{statement}
 use Rattle.pattern.proofs.max.Tie as tie
 
 abbrev Inv-loop : tie.InvT-loop
-Inv-loop totals count greatest₀ i₀ i-end greatest i = (6 ≤ i) × (i ≤ i-end) × (i-end ≡ count - 5) × (greatest ≡ greatestTo (i - 6) (λ (j : ℕ). deviation (held totals) (j + 5)))
+Inv-loop totals count greatest₀ i₀ i-end greatest i = (6 ≤ i) × (i ≤ i-end) × (i-end ≡ count - 5) × (greatest ≡ greatestIn 5 i (deviation (held totals)))
 
 abbrev μ-loop : tie.MeasureT-loop
 μ-loop totals count greatest₀ i₀ i-end greatest i = i-end - i
@@ -24,7 +23,7 @@ sub-i-end : tie.Need-sub-i-end Inv-loop μ-loop
 sub-i-end c = search needs
 
 loop-holds : tie.Need-loop-holds Inv-loop μ-loop
-loop-holds c = (omega arith, omega arith, refl, c .deviation-at .ensures ∙ greatest-none _)
+loop-holds c = (omega arith, omega arith, refl, c .deviation-at .ensures ∙ greatest-one 5 _)
 
 deviation-at-requires-2 : tie.Need-deviation-at-requires-2 Inv-loop μ-loop
 deviation-at-requires-2 c κs = (omega arith, omega arith, omega arith, c .before .before .before .pre .2)
@@ -45,12 +44,13 @@ loop-again c = let l = c .before .before .before in
       omega arith,
       refl,
       c .greater-of .ensures
-          ∙ max-more (held (s .args .totals .now)) (l .loop .i) _ _ (omega arith) (l .loop .inv .3) (c .before .deviation-at2 .ensures),
+          ∙ ap₂ greater (l .loop .inv .3) (c .before .deviation-at2 .ensures)
+          ∙ greatest-more 5 (deviation (held (s .args .totals .now))) (l .loop .i) (omega arith),
     )
 
 returns : tie.Need-returns Inv-loop μ-loop
-returns c = let s = c .before .before .before in let e : c .before .loop .i - 6 ≡ s .args .count - 11 = omega arith in
-    c .before .loop .inv .3 ∙ ap (λ (n : ℕ). greatestTo n (λ (j : ℕ). deviation (held (s .args .totals .now)) (j + 5))) e
+returns c = let s = c .before .before .before in let e : c .before .loop .i ≡ s .args .count - 5 = omega arith in
+    c .before .loop .inv .3 ∙ ap (λ (n : ℕ). greatestIn 5 n (deviation (held (s .args .totals .now)))) e
 
 pub max-spec : {M : Type 1} → statement M
 max-spec =
