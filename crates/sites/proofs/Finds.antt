@@ -4,9 +4,8 @@ use mathlib.Core.Bool.{Bool, true, false, cond}
 use mathlib.Core.List.{List}
 use mathlib.Core.Path.{_≡_, refl, sym, _∙_}
 use native.Mathlib.Omega.{arith}
-use lib.Dec.{eqb, ltb}
+use lib.Dec.{eqb}
 use lib.ListN.{length, getD}
-use borrow.Author.Tests.{ltb-false}
 use Rattle.laws.specs.Table.{tabulate}
 use Rattle.verdict.specs.declared.Refusal.{Refusal}
 use Rattle.verdict.specs.declared.Verdict.the-variants as verdict
@@ -48,13 +47,13 @@ module _ (w h t : ℕ) (m n : List ℕ) (f g : ℕ → ℕ) (i j : ℕ) (code : 
   same-marked found = rw (code, found)
 
 -- a threshold that is used is at most 4095, as one that is given
-pub used-few : (t used : ℕ) → used ≡ usedThreshold t → ltb 4095 t ≡ false → used ≤ 4095
+pub used-few : (t used : ℕ) → used ≡ usedThreshold t → t ≤ 4095 → used ≤ 4095
 unfolding usedThreshold
-used-few t used e low = rw e (by (eqb t 0))
+used-few t used e few = rw e (by (eqb t 0))
   where
     by : (b : Bool) → cond b defaultThreshold t ≤ 4095
     by true = omega arith
-    by false = ltb-false 4095 t low
+    by false = few
 
 -- what the verdict makes of the answer, its numbers and the mask
 module _ (w h full t : ℕ) (mask frame out : List ℕ) where
