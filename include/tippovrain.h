@@ -319,7 +319,7 @@ uint64_t tip_pattern_horizontal(size_t width, size_t height, uint64_t full_scale
  * threshold from their mean. Every decision uses the mask as it came in.
  *
  *   full_scale   grey levels, 1 to 4095
- *   threshold    grey levels, 1 to 4095; 0 stands for the default, 28
+ *   threshold    grey levels, 1 to 4095; 0 stands for the default, 24
  *   mask         width * height codes, only read: 0 surveyed, 1 gap, 2 defect, 3 filled
  *   frame        width * height samples, only read; a sample at any code but 0 may be any number, and changes nothing
  *   out_mask     width * height codes, each written: 2 where a site is newly found, else the code of mask
@@ -334,6 +334,8 @@ uint64_t tip_pattern_horizontal(size_t width, size_t height, uint64_t full_scale
  *   uint64_t place, count;
  *   tip_find_defects(4, 4, 1023, 28, mask, 16, frame, 16, out_mask, 16, &place, &count);
  *                                          gives 0, count is 1, and out_mask is 2 at site 5, 0 elsewhere
+ *
+ *   With 101 at site 5 the count is 0 at threshold 28, and 1 at threshold 0.
  */
 uint64_t tip_find_defects(size_t width, size_t height, uint64_t full_scale, uint64_t threshold,
                           const uint8_t *mask, size_t mask_len,

@@ -366,7 +366,9 @@ static void sites(void)
 {
     check("tip_find_defects", "K6", finds(28, 102, 0, 1, 5));
     check("tip_find_defects", "K7", finds(28, 101, 0, 0, 16));
-    check("tip_find_defects", "the default threshold", finds(0, 102, 0, 1, 5) && finds(0, 101, 0, 0, 16));
+    check("tip_find_defects", "the like of K6 for 24", finds(24, 96, 0, 1, 5));
+    check("tip_find_defects", "the like of K7 for 24", finds(24, 95, 0, 0, 16));
+    check("tip_find_defects", "the default threshold", finds(0, 96, 0, 1, 5) && finds(0, 95, 0, 0, 16) && finds(0, 101, 0, 1, 5));
     check("tip_find_defects", "refused 3", finds(4096, 102, 3, 0, 16));
     check("tip_find_defects", "refused 6 at 5", finds(28, 1024, 6, 0, 16));
     check("tip_repair", "the mean of 60 and 65, half rounded up", repairs());

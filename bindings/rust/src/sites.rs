@@ -7,7 +7,7 @@ use crate::{native, Refusal, Window};
 /// of its plane around it, cut off at the plane's edges: c of them, the site included, with the sum S. It is defective
 /// when `|p * c - S| >= threshold * c`. Every decision uses the mask as it came in.
 ///
-/// - `threshold`: 1 to 4095 grey levels; 0 stands for the default, 28
+/// - `threshold`: 1 to 4095 grey levels; 0 stands for the default, 24
 /// - `mask`: `width * height` codes, 0 to 3
 /// - `frame`: `width * height` samples, grey levels, 0 to full scale where surveyed
 /// - `out_mask`: `width * height` codes, each written: 2 where a site is newly found, else the code of `mask`
@@ -25,6 +25,7 @@ use crate::{native, Refusal, Window};
 /// let mut out_mask = [0; 16];
 /// frame[5] = 101;
 /// assert_eq!(find_defects(window, 28, &[0; 16], &frame, &mut out_mask)?, 0);
+/// assert_eq!(find_defects(window, 0, &[0; 16], &frame, &mut out_mask)?, 1);
 /// frame[5] = 102;
 /// assert_eq!(find_defects(window, 28, &[0; 16], &frame, &mut out_mask)?, 1);
 /// assert_eq!(out_mask[5], DEFECT);

@@ -220,6 +220,20 @@ fn horizontal_pattern() {
     pattern(pattern_horizontal, window, [12, 13]);
 }
 
+/// The lone site of K6 and K7, on both sides of the default and of 28.
+#[test]
+fn thresholds() {
+    let found = |threshold, sample| {
+        let mut frame = [64; 16];
+        frame[5] = sample;
+        find_defects(window(4, 4), threshold, &[0; 16], &frame, &mut [9; 16])
+    };
+    for (threshold, least) in [(0, 96), (24, 96), (28, 102)] {
+        assert_eq!(found(threshold, least - 1), Ok(0));
+        assert_eq!(found(threshold, least), Ok(1));
+    }
+}
+
 #[test]
 fn defects_and_repair() {
     let window = window(4, 4);

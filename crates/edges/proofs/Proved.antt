@@ -42,5 +42,14 @@ edges = record {
 }
 
 pub beside : Beside
-unfolding firstTo greatestTo greatestIn sumTo sumIn sumBox tabulate shapeOf maskVerdict frameVerdict boxSum badSide badSides badScale sitesOf _⨟_ refuseIf refuseFirst seenAt seen one lineTotal stepOf tenAround standsOut deviation figuresOf badCount patternVerdict patternAnswer before after pooled defective markOf markAt linesVerdict linesBuffer
-beside = record { dark-column = refl; dark-row = refl; dark-columns = refl; met-unmarked = refl; met-marked = refl }
+unfolding firstTo greatestTo greatestIn sumTo sumIn sumBox tabulate shapeOf maskVerdict frameVerdict boxSum badSide badSides badScale sitesOf _⨟_ refuseIf refuseFirst seenAt seen one nearSum usedThreshold far foundAt markedAt foundCount findVerdict findAnswer findMask lineTotal stepOf tenAround standsOut deviation figuresOf badCount patternVerdict patternAnswer before after pooled defective markOf markAt linesVerdict linesBuffer
+beside = record {
+  dark-column = refl;
+  dark-row = refl;
+  dark-columns = refl;
+  lone-96 = ((refl, refl), (refl, refl));
+  lone-95 = ((refl, refl), (refl, refl));
+  lone-101 = (refl, refl);
+  met-unmarked = refl;
+  met-marked = refl;
+}

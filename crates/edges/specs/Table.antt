@@ -1,4 +1,4 @@
--- Document 01, "Both sides of each edge": the worked examples K1 to K10 as one table of equations, and beside them what they leave open.
+-- Document 01, "Both sides of each edge": the worked examples K1 to K10 as one table of equations, and beside them what they leave open and what document 02 adds.
 use Prim.Native.Nat.{ℕ, _/_, _%_}
 use mathlib.Core.Bool.{false, cond, _&&_}
 use mathlib.Core.List.{List, [], _∷_}
@@ -52,6 +52,16 @@ asRows = striped (λ (i : ℕ). i / 2)
 abbrev raised : ℕ → List ℕ
 raised last = tabulate 396 (λ (i : ℕ). cond (eqb (i / 22) 8 && eqb (i % 2) 0) (cond (ltb i last) 103 102) 100)
 
+-- a search at threshold t of 4 × 4 sites, all 64 but site 5, which holds `sample`: that site alone is found
+abbrev LoneFound : ℕ → ℕ → Type 0
+LoneFound t sample = (findAnswer 4 4 1023 t (all 16 0) (but 16 64 5 sample) 16 ≡ sites.Found 1)
+    × (findMask 4 4 1023 t (all 16 0) (but 16 64 5 sample) (all 16 3) ≡ but 16 0 5 2)
+
+-- the same: it is passed over, and no other is found
+abbrev LonePassed : ℕ → ℕ → Type 0
+LonePassed t sample = (findAnswer 4 4 1023 t (all 16 0) (but 16 64 5 sample) 16 ≡ sites.Found 0)
+    × (findMask 4 4 1023 t (all 16 0) (but 16 64 5 sample) (all 16 3) ≡ all 16 0)
+
 pub record Edges : Type 0 where
   -- 2 × 2, frames 100 101 102 103 and 101 101 102 104: n 4, P 4, Q 32, r 90, noise 90/256 (4/32 is 1 × 2⁻³, 90/256 is 45 × 2⁻⁷)
   pub K1 : (pairSpread 2 2 (all 4 0) ramp (101 ∷ 101 ∷ 102 ∷ 104 ∷ []) ≡ record { n = 4; p = 4 })
@@ -68,11 +78,9 @@ pub record Edges : Type 0 where
   -- samples 60 64 64 64, black 64: dark −4/4
   pub K5 : darkAnswer 2 2 1023 64 (all 4 0) (60 ∷ 64 ∷ 64 ∷ 64 ∷ []) ≡ dark.Level (negsuc 3) 4
   -- 4 × 4, all 64 but one at 102: that one is defective at 28
-  pub K6 : (findAnswer 4 4 1023 28 (all 16 0) (but 16 64 5 102) 16 ≡ sites.Found 1)
-      × (findMask 4 4 1023 28 (all 16 0) (but 16 64 5 102) (all 16 3) ≡ but 16 0 5 2)
+  pub K6 : LoneFound 28 102
   -- the same with 101: none
-  pub K7 : (findAnswer 4 4 1023 28 (all 16 0) (but 16 64 5 101) 16 ≡ sites.Found 0)
-      × (findMask 4 4 1023 28 (all 16 0) (but 16 64 5 101) (all 16 3) ≡ all 16 0)
+  pub K7 : LonePassed 28 101
   -- width 12, height 2, k 1, full scale 1023, all 100 but column 6 at 110: level² 800/46047276, max 200/20460
   pub K8 : patternAnswer pattern-lines.columns 12 2 1023 1 (all 24 0) (asColumns 100 110)
       ≡ pattern.Measured (record { «level_numerator» = 800; «level_denominator» = 46047276; «max_numerator» = 200; «max_denominator» = 20460 })
@@ -83,7 +91,7 @@ pub record Edges : Type 0 where
   pub K10 : (linesAnswer rows 2 18 1023 (all 36 0) (but 36 100 17 102) 36 ≡ lines.Done)
       × (linesBuffer rows 2 18 1023 (all 36 0) (but 36 100 17 102) (all 36 0) ≡ all 36 0)
 
--- what K1 to K10 leave open
+-- what K1 to K10 leave open, and what document 02 adds
 pub record Beside : Type 0 where
   -- document 02 c: K8 with column 6 at 90. With their signs, the deviations of columns 5 and 6 are 20 and −200
   pub dark-column : patternAnswer pattern-lines.columns 12 2 1023 1 (all 24 0) (asColumns 100 90)
@@ -94,6 +102,11 @@ pub record Beside : Type 0 where
   -- columns 5 and 6 at 0: with their signs, both deviations are −1800
   pub dark-columns : patternAnswer pattern-lines.columns 12 2 1023 1 (all 24 0) (asColumns 0 0)
       ≡ pattern.Measured (record { «level_numerator» = 80000; «level_denominator» = 46047276; «max_numerator» = 1800; «max_denominator» = 20460 })
+  -- document 02 g, the like of K6 and K7 for 24: the lone site is found with 96 and not with 95, at threshold 24 and at 0
+  pub lone-96 : LoneFound 24 96 × LoneFound 0 96
+  pub lone-95 : LonePassed 24 95 × LonePassed 0 95
+  -- K7's window at threshold 0: found, since |101 × 4 − 293| = 111 ≥ 96 = 24 × 4
+  pub lone-101 : LoneFound 0 101
   -- a row met as often as the mirror meets it, itself twice: nine sites at 103 and two at 102 are not marked, ten and one are
   pub met-unmarked : linesBuffer rows 22 18 1023 (all 396 0) (raised 194) (all 36 0) ≡ all 36 0
   pub met-marked : linesBuffer rows 22 18 1023 (all 396 0) (raised 196) (all 36 0) ≡ but 36 0 4 1

@@ -5,10 +5,13 @@ use mathlib.Core.List.{List}
 use mathlib.Core.Path.{_≡_, refl, ap, _∙_}
 use native.Mathlib.Omega.{arith}
 use lib.ListN.{length, getD}
+use borrow.Author.Tests.{ne-eqb}
 use Rattle.laws.specs.Table.{tabulate}
 use Rattle.laws.proofs.Sums.{sum-zero}
 use Rattle.laws.proofs.Tables.{getD-tabulate}
 use Rattle.laws.proofs.Sole.{Sole, sole}
+use Rattle.verdict.specs.Verdict.{ifClear}
+use Rattle.verdict.specs.Answer.{answerOf}
 use Rattle.verdict.specs.declared.Verdict.the-variants as verdict
 use Rattle.verdict.proofs.Verdicts.{Tabled, Refuses, refuses}
 use Rattle.verdict.proofs.Answers.{paper-told}
@@ -17,8 +20,9 @@ use Rattle.window.specs.View.{seenAt, seen}
 use Rattle.window.proofs.Sides.{sides}
 use Rattle.window.proofs.Views.{Agree, same-view, seen-out}
 use Rattle.refusals.specs.Judge.{frameVerdict}
-use Rattle.sites.specs.Find.{defaultThreshold, usedThreshold, foundAt, markedAt, foundCount, findVerdict, findAnswer, findPaperOf, findPaper, findMask}
-use Rattle.sites.specs.declared.Defects.the-variants.{Found}
+use Rattle.sites.specs.Find.{usedThreshold, foundAt, markedAt, foundCount, findVerdict, findAnswer, findPaperOf, findPaper, findMask}
+use Rattle.sites.specs.declared.Defects.{Defects}
+use Rattle.sites.specs.declared.Defects.the-variants.{Found, Refused}
 use Rattle.sites.proofs.Finds.{farAt, same-found, same-marked}
 use Rattle.sites.proofs.Accepts.{find-tests, find-table, find-accepted, find-clear}
 use Rattle.sites.proofs.Turns.{OnlyTurned, turnedCount, tied, only-turned, kept, count-tied}
@@ -51,11 +55,35 @@ module _ (w h full t : ℕ) (mask frame out : List ℕ) where
   unfolding findPaper findMask
   refused = refuses (findVerdict w h full t mask frame (length out)) given refl (λ r e. rw e (refl, refl))
 
-  -- threshold 0 is the default
-  pub zero-is-default : (findAnswer w h full 0 mask frame (length out) ≡ findAnswer w h full defaultThreshold mask frame (length out))
-      × (findMask w h full 0 mask frame out ≡ findMask w h full defaultThreshold mask frame out)
+-- a threshold above 0 is taken as it is
+pub used-as-given : (t : ℕ) → 0 < t → usedThreshold t ≡ t
+unfolding usedThreshold
+used-as-given t above = rw (ne-eqb t 0 (λ e. omega arith))
+
+module _ (w h full : ℕ) (mask frame out : List ℕ) where
+  -- threshold 0 answers and writes what 24 does
+  pub zero-is-default : (findAnswer w h full 0 mask frame (length out) ≡ findAnswer w h full 24 mask frame (length out))
+      × (findMask w h full 0 mask frame out ≡ findMask w h full 24 mask frame out)
   unfolding findAnswer findMask findVerdict usedThreshold
   zero-is-default = (refl, refl)
+
+  -- the answer of a caller who says t, where that stands for `used`: the refusals of t, the count of `used`
+  abbrev pub answerFor : ℕ → ℕ → Defects
+  answerFor t used = answerOf (findVerdict w h full t mask frame (length out)) (Found (foundCount w h used mask (seen mask frame))) Refused
+
+  -- the mask that is then left
+  abbrev pub maskFor : ℕ → ℕ → List ℕ
+  maskFor t used = ifClear (findVerdict w h full t mask frame (length out)) (tabulate (sitesOf w h) (markedAt w h used mask (seen mask frame))) out
+
+  -- a threshold above 0 stands for itself: no default stands in what it answers and writes
+  pub no-default : (t : ℕ) → 0 < t → (findAnswer w h full t mask frame (length out) ≡ answerFor t t) × (findMask w h full t mask frame out ≡ maskFor t t)
+  unfolding findAnswer findMask
+  no-default t above = rw (used-as-given t above) (refl, refl)
+
+  -- the older rig (document 02 g): 28 answers and writes what 0 does where it stands for 28
+  pub older-rig : (findAnswer w h full 28 mask frame (length out) ≡ answerFor 0 28) × (findMask w h full 28 mask frame out ≡ maskFor 0 28)
+  unfolding findVerdict
+  older-rig = no-default 28 (omega arith)
 
 -- of accepted calls
 module _ (w h full t : ℕ) (mask frame out : List ℕ) (accepted : findVerdict w h full t mask frame (length out) ≡ verdict.Clear) where

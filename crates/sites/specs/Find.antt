@@ -1,4 +1,4 @@
--- Document 01, "Defective sites": what `find_defects` answers and leaves in the lent mask.
+-- Document 01, "Defective sites", as document 02 g amends it: what `find_defects` answers and leaves in the lent mask.
 use Prim.Native.Nat.{ℕ, _*_}
 use mathlib.Core.Bool.{Bool, cond}
 use mathlib.Core.List.{List}
@@ -17,10 +17,11 @@ use Rattle.sites.specs.Near.{nearSum}
 use Rattle.sites.specs.declared.Defects.{Defects}
 use Rattle.sites.specs.declared.Defects.the-variants.{Found, Refused}
 
--- "0 stands for the default, 28"
+-- document 02 g: "Threshold 0 shall stand for 24"
 abbrev pub defaultThreshold : ℕ
-defaultThreshold = 28
+defaultThreshold = 24
 
+-- the default for 0, any other threshold as it is
 unfoldable pub usedThreshold : ℕ → ℕ
 usedThreshold t = cond (eqb t 0) defaultThreshold t
 

@@ -1,4 +1,4 @@
-// Defective sites and their repair: document 01, "Defective sites" and "Repair". Both read the mask as it came in and write another.
+// Defective sites and their repair: document 01, "Defective sites", as document 02 g amends it, and "Repair". Both read the mask as it came in and write another.
 ghost use mathlib.Core.Path.{_≡_};
 ghost use mathlib.Core.Bool.{false};
 ghost use Prim.Native.Nat.{_-_, _*_, _<_, _≤_};
@@ -14,8 +14,8 @@ use plane::Sums;
 use verdict::Refusal;
 use verdict::Verdict;
 
-// Document 01: "0 stands for the default, 28".
-const DEFAULT_THRESHOLD: u64 = 28;
+// Document 02 g: "Threshold 0 shall stand for 24".
+const DEFAULT_THRESHOLD: u64 = 24;
 
 pub enum Defects {
     Found(u64),
