@@ -78,10 +78,7 @@ fn contest(
         inputs: vec![
             ("128 x 128", input(128, 1023, |_| {})),
             ("6 x 6", input(6, 1023, |case| case.frame[14] = 1000)),
-            (
-                "16 x 16, threshold 0",
-                input(16, 1023, |case| case.threshold = 0),
-            ),
+            ("16 x 16", input(16, 1023, |case| case.threshold = 0)),
             ("refused 5", input(6, 1023, |case| case.mask[9] = 4)),
             ("refused 6", input(6, 500, |_| {})),
         ],

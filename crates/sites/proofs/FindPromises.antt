@@ -67,11 +67,11 @@ module _ (w h full : ℕ) (mask frame out : List ℕ) where
   unfolding findAnswer findMask findVerdict usedThreshold
   zero-is-default = (refl, refl)
 
-  -- the answer of a caller who says t, where that stands for `used`: the refusals of t, the count of `used`
+  -- the answer to a caller who says t, where t stands for `used`: the refusals of t, the count of `used`
   abbrev pub answerFor : ℕ → ℕ → Defects
   answerFor t used = answerOf (findVerdict w h full t mask frame (length out)) (Found (foundCount w h used mask (seen mask frame))) Refused
 
-  -- the mask that is then left
+  -- the mask that this caller is left with
   abbrev pub maskFor : ℕ → ℕ → List ℕ
   maskFor t used = ifClear (findVerdict w h full t mask frame (length out)) (tabulate (sitesOf w h) (markedAt w h used mask (seen mask frame))) out
 
@@ -80,7 +80,7 @@ module _ (w h full : ℕ) (mask frame out : List ℕ) where
   unfolding findAnswer findMask
   no-default t above = rw (used-as-given t above) (refl, refl)
 
-  -- the older rig (document 02 g): 28 answers and writes what 0 does where it stands for 28
+  -- the older rig (document 02 g): 28 answers and writes what 0 would if it stood for 28
   pub older-rig : (findAnswer w h full 28 mask frame (length out) ≡ answerFor 0 28) × (findMask w h full 28 mask frame out ≡ maskFor 0 28)
   unfolding findVerdict
   older-rig = no-default 28 (omega arith)
