@@ -2,6 +2,9 @@
 
 use crate::shared::{refuse_if, settle, surveyed, Answer, Outcome, Window};
 
+/// What threshold 0 stands for (document 02 g).
+const DEFAULT_THRESHOLD: i128 = 24;
+
 /// The count of newly found sites.
 pub fn find_defects(window: Window, threshold: u64, out_mask: &mut [u8]) -> Answer {
     settle(find(window, threshold, out_mask), 1)
@@ -17,7 +20,7 @@ fn find(window: Window, threshold: u64, out_mask: &mut [u8]) -> Outcome {
     refuse_if(threshold > 4095, 3)?;
     window.check_contents(&[(out_mask.len(), sites)])?;
     let t = if threshold == 0 {
-        28
+        DEFAULT_THRESHOLD
     } else {
         i128::from(threshold)
     };
@@ -108,15 +111,51 @@ mod tests {
         new
     }
 
+    /// What is found in the window of K6 and K7, all 64 but one sample.
+    fn found_with(sample: u16, site: usize, threshold: u64) -> Vec<usize> {
+        let mut frame = [64; 16];
+        frame[site] = sample;
+        found(4, 4, threshold, &[0; 16], &frame)
+    }
+
     #[test]
     fn k6_and_k7() {
-        for threshold in [0, 28] {
-            let mut frame = [64; 16];
-            frame[6] = 102;
-            assert_eq!(found(4, 4, threshold, &[0; 16], &frame), [6]);
-            frame[6] = 101;
-            assert_eq!(found(4, 4, threshold, &[0; 16], &frame), []);
+        for site in 0..16 {
+            assert_eq!(found_with(102, site, 28), [site]);
+            assert_eq!(found_with(101, site, 28), []);
         }
+    }
+
+    #[test]
+    fn the_like_of_k6_and_k7_for_24() {
+        for threshold in [0, 24] {
+            for site in 0..16 {
+                assert_eq!(found_with(96, site, threshold), [site]);
+                assert_eq!(found_with(95, site, threshold), []);
+            }
+        }
+    }
+
+    /// |101 x 4 - 293| is 111, at least 4 x 24 and below 4 x 28.
+    #[test]
+    fn k7s_sample_is_found_at_the_default() {
+        for site in 0..16 {
+            assert_eq!(found_with(101, site, 0), [site]);
+        }
+    }
+
+    #[test]
+    fn the_default_finds_what_24_finds_and_28_less() {
+        // As far below 64 as above it, so that the plane's mean is 64.
+        let mut frame = [64; 32];
+        for (pair, away) in [23, 24, 27, 28].into_iter().enumerate() {
+            frame[4 * pair] -= away;
+            frame[4 * pair + 2] += away;
+        }
+        let found_at = |threshold| found(16, 2, threshold, &[0; 32], &frame);
+        assert_eq!(found_at(24), [4, 6, 8, 10, 12, 14]);
+        assert_eq!(found_at(0), found_at(24));
+        assert_eq!(found_at(28), [12, 14]);
     }
 
     /// R21.
