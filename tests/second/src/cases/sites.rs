@@ -76,7 +76,7 @@ fn find_in(window: Window, dice: &mut Dice) -> Find {
         dice.between(1, 8),
         dice.between(1, window.full_scale.clamp(1, 4095)),
     );
-    let threshold = dice.among(&[0, 1, 28, 4095, near, near, far, far]);
+    let threshold = dice.among(&[0, 1, 24, 28, 4095, near, near, far, far]);
     finding(threshold, window, dice)
 }
 
@@ -93,6 +93,8 @@ pub fn find_defects(tally: &mut Tally, dice: &mut Dice) {
     published(tally, dice);
     thresholds(tally, dice);
     both_sides_of_the_threshold(tally, dice);
+    lone_sites(tally, dice);
+    pairs(tally, dice);
     reach(tally, dice);
     clusters(tally, dice);
     out_mask_lengths(tally, dice);
@@ -148,17 +150,21 @@ const REPAIR_SPOILERS: &[spoil::Spoiler<Repair>] = &[
     |case, dice| case.window.spoil_sides(dice),
 ];
 
-/// K6 and K7 at every site.
+/// K6 and K7, their like for 24 (request g), and the samples of all at the default, at every site.
 fn published(tally: &mut Tally, dice: &mut Dice) {
-    for threshold in [0, 28] {
+    let shape = Shape {
+        width: 4,
+        height: 4,
+    };
+    for (threshold, samples) in [
+        (28, &[101, 102][..]),
+        (24, &[95, 96]),
+        (0, &[95, 96, 101, 102]),
+    ] {
         for site in 0..16 {
-            for sample in [101, 102] {
+            for &sample in samples {
                 let mut frame = vec![64; 16];
                 frame[site] = sample;
-                let shape = Shape {
-                    width: 4,
-                    height: 4,
-                };
                 let window = Window::of(shape, 1023, vec![0; 16], frame);
                 tally.run(finding(threshold, window, dice));
             }
@@ -171,6 +177,9 @@ fn thresholds(tally: &mut Tally, dice: &mut Dice) {
         0,
         1,
         2,
+        23,
+        24,
+        25,
         27,
         28,
         29,
@@ -179,6 +188,7 @@ fn thresholds(tally: &mut Tally, dice: &mut Dice) {
         4096,
         65536,
         1 << 32,
+        (1 << 32) + 24,
         (1 << 32) + 28,
         1 << 63,
         u64::MAX,
@@ -198,7 +208,23 @@ fn thresholds(tally: &mut Tally, dice: &mut Dice) {
             Window::of(shape, 4095, vec![0; 16], frame),
             dice,
         ));
+        tally.run(finding(threshold, stairs(), dice));
     }
+}
+
+/// Samples as far below the level as above it, so that the mean is the level: each threshold to 29
+/// finds two sites less than the one before.
+fn stairs() -> Window {
+    let mut frame = vec![64; 64];
+    for (step, away) in [1, 2, 23, 24, 25, 27, 28, 29].into_iter().enumerate() {
+        frame[4 * step] -= away;
+        frame[4 * step + 2] += away;
+    }
+    let shape = Shape {
+        width: 32,
+        height: 2,
+    };
+    Window::of(shape, 1023, vec![0; 64], frame)
 }
 
 /// One site of a level window moves step by step past the threshold, above and below the level;
@@ -214,12 +240,103 @@ fn both_sides_of_the_threshold(tally: &mut Tally, dice: &mut Dice) {
                 mask[*gap] = dice.between(1, 3) as u8;
                 frame[*gap] = windows::unsurveyed(dice);
             }
-            let threshold = dice.among(&[0, 28, 28, 1, 40]);
+            let threshold = dice.among(&[0, 24, 28, 1, 40]);
             tally.run(finding(
                 threshold,
                 Window::of(shape, 1023, mask, frame),
                 dice,
             ));
+        }
+    }
+}
+
+/// The same frame at the default, at what it stands for, and at 28.
+fn at_0_24_and_28(window: &Window, tally: &mut Tally, dice: &mut Dice) {
+    for threshold in [0, 24, 28] {
+        tally.run(finding(threshold, window.clone(), dice));
+    }
+}
+
+/// The other sites of a site's plane, up to 15 plane steps away in each direction.
+fn neighbours(shape: Shape, site: usize) -> Vec<usize> {
+    let near = |a: usize, b: usize| a % 2 == b % 2 && a.abs_diff(b) <= 30;
+    let width = shape.width;
+    (0..shape.sites())
+        .filter(|&other| other != site)
+        .filter(|other| near(other / width, site / width) && near(other % width, site % width))
+        .collect()
+}
+
+/// The level at every surveyed site, anything at the others.
+fn level_frame(level: u16, mask: &[u8], dice: &mut Dice) -> Vec<u16> {
+    mask.iter()
+        .map(|&code| match code {
+            0 => level,
+            _ => windows::unsurveyed(dice),
+        })
+        .collect()
+}
+
+/// Small windows, and some that are larger than the box. The last number of each is all the
+/// neighbours that a site can have: no gaps.
+fn lone_sites(tally: &mut Tally, dice: &mut Dice) {
+    for (width, height, numbers) in [
+        (4, 4, &[1, 2, 3][..]),
+        (6, 4, &[3, 4, 5]),
+        (64, 66, &[24, 960]),
+        (128, 2, &[6, 12, 30]),
+        (2, 128, &[4, 14, 30]),
+    ] {
+        for &number in numbers {
+            lone_site(Shape { width, height }, number, tally, dice);
+        }
+    }
+}
+
+/// One site of a level window, with at most so many surveyed neighbours, on both sides of 24 and
+/// of 28 from its mean, above and below the level.
+fn lone_site(shape: Shape, most: usize, tally: &mut Tally, dice: &mut Dice) {
+    let any = dice.below(shape.sites());
+    let middle = shape.width * (shape.height / 2) + shape.width / 2;
+    let site = dice.among(&[0, middle, any]);
+    let mut others = neighbours(shape, site);
+    dice.shuffle(&mut others);
+    let surveyed = others.len().min(most);
+    let mut mask = vec![0; shape.sites()];
+    for &gap in &others[surveyed..] {
+        mask[gap] = dice.between(1, 3) as u8;
+    }
+    for threshold in [24usize, 28] {
+        // With n neighbours at the level the mean follows by one part in n + 1: where n divides
+        // the threshold, it is met exactly.
+        let least = (threshold + threshold.div_ceil(surveyed)) as u16;
+        for away in [least - 1, least] {
+            for sample in [500 - away, 500 + away] {
+                let mut frame = level_frame(500, &mask, dice);
+                frame[site] = sample;
+                let window = Window::of(shape, 1023, mask.clone(), frame);
+                at_0_24_and_28(&window, tally, dice);
+            }
+        }
+    }
+}
+
+/// Two sites of one box, as far below the level as above it, leave their mean at the level: 24 and
+/// 28 are met exactly with any gaps and without, also where sites lie outside the box.
+fn pairs(tally: &mut Tally, dice: &mut Dice) {
+    for (width, height) in [(64, 66), (128, 2), (2, 128)] {
+        let shape = Shape { width, height };
+        let bright = dice.below(shape.sites());
+        let dark = dice.among(&neighbours(shape, bright));
+        for mut mask in [vec![0; shape.sites()], windows::mask(shape.sites(), dice)] {
+            (mask[bright], mask[dark]) = (0, 0);
+            for away in [23, 24, 27, 28] {
+                let mut frame = level_frame(64, &mask, dice);
+                frame[bright] += away;
+                frame[dark] -= away;
+                let window = Window::of(shape, 1023, mask.clone(), frame);
+                at_0_24_and_28(&window, tally, dice);
+            }
         }
     }
 }
@@ -277,17 +394,19 @@ fn clusters(tally: &mut Tally, dice: &mut Dice) {
                 windows::unsurveyed(dice)
             };
         }
+        // A very bright site moves a small plane's mean, and leaves few between 24 and 28 from it.
+        let brightest = dice.among(&[130, 130, 130, 1023]);
         for _ in 0..=dice.below(3) {
             let (row, column) = (dice.below(shape.height), dice.below(shape.width));
             for near_row in row..(row + 3).min(shape.height) {
                 for near_column in column..(column + 3).min(shape.width) {
                     let site = near_row * shape.width + near_column;
-                    let bright = dice.between(80, 1023) as u16;
-                    window.frame[site] = dice.among(&[92, 93, 96, 102, bright]);
+                    let bright = dice.between(80, brightest) as u16;
+                    window.frame[site] = dice.among(&[88, 90, 92, 96, 102, 116, bright, bright]);
                 }
             }
         }
-        let threshold = dice.among(&[0, 28, 20, 40]);
+        let threshold = dice.among(&[0, 0, 24, 28, 20, 40]);
         tally.run(finding(threshold, window, dice));
     }
 }
