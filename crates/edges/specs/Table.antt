@@ -52,15 +52,18 @@ asRows = striped (λ (i : ℕ). i / 2)
 abbrev raised : ℕ → List ℕ
 raised last = tabulate 396 (λ (i : ℕ). cond (eqb (i / 22) 8 && eqb (i % 2) 0) (cond (ltb i last) 103 102) 100)
 
--- a search at threshold t of 4 × 4 sites, all 64 but site 5, which holds `sample`: that site alone is found
-abbrev LoneFound : ℕ → ℕ → Type 0
-LoneFound t sample = (findAnswer 4 4 1023 t (all 16 0) (but 16 64 5 sample) 16 ≡ sites.Found 1)
-    × (findMask 4 4 1023 t (all 16 0) (but 16 64 5 sample) (all 16 3) ≡ but 16 0 5 2)
+-- a search at threshold t of 4 × 4 sites, all 64 but site 5, which holds `sample`: how many are found, and the mask that is left
+abbrev Lone : ℕ → ℕ → ℕ → List ℕ → Type 0
+Lone t sample count left = (findAnswer 4 4 1023 t (all 16 0) (but 16 64 5 sample) 16 ≡ sites.Found count)
+    × (findMask 4 4 1023 t (all 16 0) (but 16 64 5 sample) (all 16 3) ≡ left)
 
--- the same: it is passed over, and no other is found
+-- that site alone is found
+abbrev LoneFound : ℕ → ℕ → Type 0
+LoneFound t sample = Lone t sample 1 (but 16 0 5 2)
+
+-- it is passed over, and no other is found
 abbrev LonePassed : ℕ → ℕ → Type 0
-LonePassed t sample = (findAnswer 4 4 1023 t (all 16 0) (but 16 64 5 sample) 16 ≡ sites.Found 0)
-    × (findMask 4 4 1023 t (all 16 0) (but 16 64 5 sample) (all 16 3) ≡ all 16 0)
+LonePassed t sample = Lone t sample 0 (all 16 0)
 
 pub record Edges : Type 0 where
   -- 2 × 2, frames 100 101 102 103 and 101 101 102 104: n 4, P 4, Q 32, r 90, noise 90/256 (4/32 is 1 × 2⁻³, 90/256 is 45 × 2⁻⁷)

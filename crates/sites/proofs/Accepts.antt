@@ -1,10 +1,10 @@
 -- What an accepted call's inputs are, and that such inputs are accepted.
-use Prim.Native.Nat.{ℕ}
-use mathlib.Core.Bool.{false}
+use Prim.Native.Nat.{ℕ, _≤_}
 use mathlib.Core.List.{List, [], _∷_}
 use mathlib.Core.Path.{_≡_, refl}
 use lib.Dec.{ltb}
 use lib.ListN.{length}
+use borrow.Author.Tests.{ltb-false, le-ltb}
 use Rattle.verdict.specs.declared.Verdict.the-variants.{Clear}
 use Rattle.verdict.proofs.Verdicts.{Tabled, Test, test, tabled, tabled-none, tabled-then, then-clear, clear-then, unless, clear-unless}
 use Rattle.window.specs.Shape.{badSides, badScale, sitesOf}
@@ -35,15 +35,15 @@ module _ (w h full t : ℕ) (mask frame : List ℕ) (out : ℕ) where
   find-table = frame-tabled w h full mask frame (tabled _ []) (tabled _ [])
 
   pub find-accepted : findVerdict w h full t mask frame out ≡ Clear
-      → Framed w h full mask frame × (ltb 4095 t ≡ false) × (out ≡ sitesOf w h)
+      → Framed w h full mask frame × (t ≤ 4095) × (out ≡ sitesOf w h)
   unfolding findVerdict
   find-accepted e =
       let lent = frame-clear w h full mask frame e in
-      (lent .2, unless 3 0 (ltb 4095 t) (lent .0), length-clear (sitesOf w h) out (lent .1))
+      (lent .2, ltb-false 4095 t (unless 3 0 (ltb 4095 t) (lent .0)), length-clear (sitesOf w h) out (lent .1))
 
-  pub find-clear : Framed w h full mask frame → ltb 4095 t ≡ false → out ≡ sitesOf w h → findVerdict w h full t mask frame out ≡ Clear
+  pub find-clear : Framed w h full mask frame → t ≤ 4095 → out ≡ sitesOf w h → findVerdict w h full t mask frame out ≡ Clear
   unfolding findVerdict
-  find-clear a low long = clear-frame w h full mask frame a (clear-unless 3 0 low) (clear-length (sitesOf w h) out long)
+  find-clear a few long = clear-frame w h full mask frame a (clear-unless 3 0 (le-ltb 4095 t few)) (clear-length (sitesOf w h) out long)
 
 -- a repair: the frame and the mask that are written
 module _ (w h full : ℕ) (mask frame : List ℕ) (outFrame outMask : ℕ) where

@@ -2,7 +2,6 @@
 use mathlib.Core.Path.{sym, _∙_}
 use native.Mathlib.Omega.{arith}
 use borrow.Author.Needs.{needs}
-use borrow.Author.Tests.{ltb-false}
 use Rattle.sites.proofs.Finds.{used-few, find-refused, find-done}
 use Rattle.sites.proofs.Accepts.{find-accepted}
 use Rattle.sites.proofs.find_defects.Statement.{statement}
@@ -22,8 +21,7 @@ used-threshold-requires c κs = search needs
 
 mark-requires : tie.Need-mark-requires
 mark-requires c κs = let a = find-accepted _ _ _ _ _ _ _ (sym (c .before .before .before .before .judge-find .ensures) ∙ c .before .before .enum-told .given .1) in
-    let few = ltb-false 4095 (c .before .before .before .before .before .before .before .before .args .threshold) (a .1) in
-    ((a .0 .of .legal, used-few _ _ (c .before .used-threshold .ensures) (omega (arith, few))), (a .0 .of .masked, a .0 .framed, a .2))
+    ((a .0 .of .legal, used-few _ _ (c .before .used-threshold .ensures) (omega (arith, a .1))), (a .0 .of .masked, a .0 .framed, a .2))
 
 returns : tie.Need-returns
 returns c = find-refused _ _ _ _ _ _ _ _ (sym (c .before .before .before .judge-find .ensures) ∙ c .before .refusal .given .1)
