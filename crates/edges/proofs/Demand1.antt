@@ -13,9 +13,10 @@ use Rattle.raw.specs.Unpack.{unpackVerdict, unpackPaper, unpackBuffer}
 use Rattle.raw.specs.Unpack as unpacking
 use Rattle.raw.proofs.Unpacks as raw-table
 use Rattle.raw.proofs.Promises as raw
-use Rattle.pair.specs.Pair.{pairVerdict}
-use Rattle.pair.specs.Answers as pair-answers
-use Rattle.pair.proofs.Measures as pair-table
+use Rattle.pair.specs.Figures as pair-numbers
+use Rattle.pair.specs.Pair.{pairVerdict, pairPaper}
+use Rattle.pair.specs.Pair as pairs
+use Rattle.pair.proofs.Accepts as pair-table
 use Rattle.pair.proofs.Promises as pair
 use Rattle.dark.specs.Dark.{darkVerdict, darkPaper}
 use Rattle.dark.specs.Dark as levels
@@ -67,14 +68,10 @@ pub record Demand1 : Type 0 where
       → let paper = unpackPaper w h (length bytes) (length out) in
       Refusing (unpackVerdict w h (length bytes) (length out)) (raw-table.tests w h (length bytes) (length out)) paper
       (unpackBuffer w h bytes out ≡ out)
-  pub pair-variance : (w h full : ℕ) (mask first second : List ℕ)
-      → let paper = pair-answers.variancePaper w h full mask first second in
+  pub pair-figures : (w h full : ℕ) (mask first second : List ℕ)
+      → let paper = pairPaper w h full mask first second in
       Refusing (pairVerdict w h full mask first second) (pair-table.tests w h full mask first second) paper
-      (paper .figures ≡ pair-answers.noVariance)
-  pub pair-noise : (w h full : ℕ) (mask first second : List ℕ)
-      → let paper = pair-answers.noisePaper w h full mask first second in
-      Refusing (pairVerdict w h full mask first second) (pair-table.tests w h full mask first second) paper
-      (paper .figures ≡ pair-answers.noNoise)
+      (paper .figures ≡ pair-numbers.noFigures)
   pub dark-level : (w h full black : ℕ) (mask frame : List ℕ)
       → let paper = darkPaper w h full black mask frame in
       Refusing (darkVerdict w h full black mask frame) (dark-table.tests w h full black mask frame) paper
@@ -117,11 +114,10 @@ pub record Demand1 : Type 0 where
       (paper .figures ≡ jobs.noFigures)
 
 pub demand-1 : Demand1
-unfolding unpackPaper pair-answers.variancePaper pair-answers.noisePaper darkPaper addPaper variance.variancePaper patternPaper findPaper repairPaper linesPaper colourPaper jobPaper
+unfolding unpackPaper pairPaper darkPaper addPaper variance.variancePaper patternPaper findPaper repairPaper linesPaper colourPaper jobPaper
 demand-1 = record {
   unpack-raw10 = λ w h bytes out. record { given = raw.given w h bytes out; told = (refl, refl); refused = raw.refused w h bytes out };
-  pair-variance = λ w h full mask first second. record { given = pair.given w h full mask first second; told = (refl, refl); refused = pair.refused w h full mask first second .0 };
-  pair-noise = λ w h full mask first second. record { given = pair.given w h full mask first second; told = (refl, refl); refused = pair.refused w h full mask first second .1 };
+  pair-figures = λ w h full mask first second. record { given = pair.given w h full mask first second; told = (refl, refl); refused = pair.refused w h full mask first second };
   dark-level = λ w h full black mask frame. record { given = dark.given w h full black mask frame; told = (refl, refl); refused = dark.refused w h full black mask frame };
   stack-add = λ w h full k mask frame sums squares. record { given = stack.add-given w h full k mask frame sums squares; told = (refl, refl); refused = stack.add-refused w h full k mask frame sums squares };
   stack-variance = λ w h full k mask sums squares. record { given = stack.variance-given w h full k mask sums squares; told = (refl, refl); refused = stack.variance-refused w h full k mask sums squares };
@@ -137,9 +133,8 @@ demand-1 = record {
 pub record Numbers : Type 0 where
   pub unpack-raw10 : (w h : ℕ) (bytes out : List ℕ)
       → unpacking.paperOf (unpacking.unpackAnswer w h (length bytes) (length out)) ≡ unpackPaper w h (length bytes) (length out)
-  pub pair-noise : (w h full : ℕ) (mask first second : List ℕ)
-      → (pair-answers.variancePaperOf (pair-answers.varianceAnswer w h full mask first second) ≡ pair-answers.variancePaper w h full mask first second)
-      × (pair-answers.noisePaperOf (pair-answers.noiseAnswer w h full mask first second) ≡ pair-answers.noisePaper w h full mask first second)
+  pub pair-figures : (w h full : ℕ) (mask first second : List ℕ)
+      → pairs.paperOf (pairs.pairAnswer w h full mask first second) ≡ pairPaper w h full mask first second
   pub dark-level : (w h full black : ℕ) (mask frame : List ℕ)
       → levels.paperOf (levels.darkAnswer w h full black mask frame) ≡ darkPaper w h full black mask frame
   pub stack-add : (w h full k : ℕ) (mask frame sums squares : List ℕ)
@@ -163,7 +158,7 @@ pub record Numbers : Type 0 where
 pub numbers : Numbers
 numbers = record {
   unpack-raw10 = raw.paper-is;
-  pair-noise = pair.paper-is;
+  pair-figures = pair.paper-is;
   dark-level = dark.paper-is;
   stack-add = stack.add-paper-is;
   stack-variance = stack.variance-paper-is;

@@ -11,7 +11,7 @@ use Rattle.verdict.specs.declared.Verdict.the-variants as verdict
 use Rattle.window.specs.Shape.{sitesOf}
 use Rattle.window.specs.View.{surveyed}
 use Rattle.window.proofs.Views.{Agree}
-use Rattle.pair.specs.Answers as pair-answers
+use Rattle.pair.specs.Pair.{pairAnswer}
 use Rattle.pair.proofs.Promises as pair
 use Rattle.dark.specs.Dark.{darkAnswer}
 use Rattle.dark.proofs.Promises as dark
@@ -36,9 +36,8 @@ use Rattle.stream.proofs.Promises as stream
 
 -- ---- only surveyed sites count
 pub record Blind : Type 0 where
-  pub pair-noise : (w h full : ℕ) {mask first first′ second second′ : List ℕ} → Agree mask first first′ → Agree mask second second′
-      → (pair-answers.varianceAnswer w h full mask first second ≡ pair-answers.varianceAnswer w h full mask first′ second′)
-      × (pair-answers.noiseAnswer w h full mask first second ≡ pair-answers.noiseAnswer w h full mask first′ second′)
+  pub pair-figures : (w h full : ℕ) {mask first first′ second second′ : List ℕ} → Agree mask first first′ → Agree mask second second′
+      → pairAnswer w h full mask first second ≡ pairAnswer w h full mask first′ second′
   pub dark-level : (w h full black : ℕ) (mask frame other : List ℕ) → Agree mask frame other
       → darkAnswer w h full black mask frame ≡ darkAnswer w h full black mask other
   -- a frame, and a stack's sums; other sites' sums stay as they were
@@ -95,7 +94,7 @@ pub record Demand2 : Type 0 where
 pub demand-2 : Demand2
 demand-2 = record {
   blind = record {
-    pair-noise = λ w h full a b. pair.blind w h full a b;
+    pair-figures = λ w h full a b. pair.blind w h full a b;
     dark-level = dark.blind;
     stack-add = stack.add-blind;
     stack-sums = stack.add-blind-sums;

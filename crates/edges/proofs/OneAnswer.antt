@@ -6,7 +6,7 @@ use lib.ListN.{length}
 use Rattle.laws.proofs.Sole.{Sole}
 use Rattle.raw.specs.Unpack.{unpackAnswer, unpackBuffer}
 use Rattle.raw.proofs.Promises as raw
-use Rattle.pair.specs.Answers as pair-answers
+use Rattle.pair.specs.Pair.{pairAnswer}
 use Rattle.pair.proofs.Promises as pair
 use Rattle.dark.specs.Dark.{darkAnswer}
 use Rattle.dark.proofs.Promises as dark
@@ -31,8 +31,7 @@ use Rattle.stream.proofs.Promises as stream
 pub record OneAnswer : Type 0 where
   pub unpack-raw10 : (w h : ℕ) (bytes out : List ℕ)
       → Sole (unpackAnswer w h (length bytes) (length out)) × Sole (unpackBuffer w h bytes out)
-  pub pair-noise : (w h full : ℕ) (mask first second : List ℕ)
-      → Sole (pair-answers.varianceAnswer w h full mask first second) × Sole (pair-answers.noiseAnswer w h full mask first second)
+  pub pair-figures : (w h full : ℕ) (mask first second : List ℕ) → Sole (pairAnswer w h full mask first second)
   pub dark-level : (w h full black : ℕ) (mask frame : List ℕ) → Sole (darkAnswer w h full black mask frame)
   pub stack-add : (w h full k : ℕ) (mask frame sums squares : List ℕ)
       → Sole (addAnswer w h full k mask frame sums squares)
@@ -55,7 +54,7 @@ pub record OneAnswer : Type 0 where
 pub one-answer : OneAnswer
 one-answer = record {
   unpack-raw10 = raw.only;
-  pair-noise = pair.only;
+  pair-figures = pair.only;
   dark-level = dark.only;
   stack-add = stack.add-only;
   stack-variance = stack.variance-only;

@@ -14,8 +14,8 @@ use Rattle.refusals.specs.Judge.{shapeOf, maskVerdict, frameVerdict}
 use Rattle.plane.specs.Plane.{boxSum}
 use Rattle.raw.specs.Packed.{joined, sampleAt}
 use Rattle.raw.specs.Unpack.{unpackVerdict, unpackAnswer, unpackBuffer}
-use Rattle.pair.specs.Pair.{numerator, spreadOf, framesVerdict, pairVerdict}
-use Rattle.pair.specs.Answers.{varianceAnswer, noiseAnswer}
+use Rattle.pair.specs.Figures.{numerator, spreadOf}
+use Rattle.pair.specs.Pair.{framesVerdict, pairVerdict, pairAnswer}
 use Rattle.dark.specs.Dark.{aboveBlack, darkVerdict, darkAnswer}
 use Rattle.pattern.specs.Lines.{lineTotal}
 use Rattle.pattern.specs.Figures.{stepOf, tenAround, standsOut, deviation, figuresOf}
@@ -27,10 +27,10 @@ use Rattle.lines.specs.Marks.{linesVerdict, linesAnswer, linesBuffer}
 use Rattle.edges.specs.Table.{Edges, Beside}
 
 pub edges : Edges
-unfolding round ofBits firstTo greatestTo greatestIn _⊖_ sumToℤ sumTo sumIn sumBox tabulate shapeOf maskVerdict frameVerdict boxSum badSide badSides badScale sitesOf _⨟_ refuseIf refuseFirst seenAt seen one root rootTo joined sampleAt unpackVerdict unpackAnswer unpackBuffer numerator spreadOf framesVerdict pairVerdict varianceAnswer noiseAnswer aboveBlack darkVerdict darkAnswer nearSum usedThreshold far foundAt markedAt foundCount findVerdict findAnswer findMask lineTotal stepOf tenAround standsOut deviation figuresOf badCount patternVerdict patternAnswer before after pooled defective markOf markAt linesVerdict linesAnswer linesBuffer
+unfolding round ofBits firstTo greatestTo greatestIn _⊖_ sumToℤ sumTo sumIn sumBox tabulate shapeOf maskVerdict frameVerdict boxSum badSide badSides badScale sitesOf _⨟_ refuseIf refuseFirst seenAt seen one root rootTo joined sampleAt unpackVerdict unpackAnswer unpackBuffer numerator spreadOf framesVerdict pairVerdict pairAnswer aboveBlack darkVerdict darkAnswer nearSum usedThreshold far foundAt markedAt foundCount findVerdict findAnswer findMask lineTotal stepOf tenAround standsOut deviation figuresOf badCount patternVerdict patternAnswer before after pooled defective markOf markAt linesVerdict linesAnswer linesBuffer
 edges = record {
-  K1 = (refl, refl, refl);
-  K2 = (refl, refl, refl);
+  K1 = refl;
+  K2 = refl;
   K3 = (refl, refl);
   K4 = (refl, refl);
   K5 = refl;

@@ -9,10 +9,8 @@ use lib.IntN.{negsuc}
 use Rattle.laws.specs.Table.{tabulate}
 use Rattle.raw.specs.Unpack.{unpackAnswer, unpackBuffer}
 use Rattle.raw.specs.declared.Unpacked.the-variants as raw
-use Rattle.pair.specs.Pair.{pairSpread}
-use Rattle.pair.specs.Answers.{varianceAnswer, noiseAnswer}
-use Rattle.pair.specs.declared.Variance.the-variants as variance
-use Rattle.pair.specs.declared.Noise.the-variants as noise
+use Rattle.pair.specs.Pair.{pairAnswer}
+use Rattle.pair.specs.declared.Pair.the-variants as pair
 use Rattle.dark.specs.Dark.{darkAnswer}
 use Rattle.dark.specs.declared.Dark.the-variants as dark
 use Rattle.pattern.specs.Lines as pattern-lines
@@ -67,13 +65,11 @@ LonePassed t sample = Lone t sample 0 (all 16 0)
 
 pub record Edges : Type 0 where
   -- 2 × 2, frames 100 101 102 103 and 101 101 102 104: n 4, P 4, Q 32, r 90, noise 90/256 (4/32 is 1 × 2⁻³, 90/256 is 45 × 2⁻⁷)
-  pub K1 : (pairSpread 2 2 (all 4 0) ramp (101 ∷ 101 ∷ 102 ∷ 104 ∷ []) ≡ record { n = 4; p = 4 })
-      × (varianceAnswer 2 2 1023 (all 4 0) ramp (101 ∷ 101 ∷ 102 ∷ 104 ∷ []) ≡ variance.Figures 4 32 (fin false 1 (negsuc 2)))
-      × (noiseAnswer 2 2 1023 (all 4 0) ramp (101 ∷ 101 ∷ 102 ∷ 104 ∷ []) ≡ noise.Figure (fin false 45 (negsuc 6)) 90 4)
+  pub K1 : pairAnswer 2 2 1023 (all 4 0) ramp (101 ∷ 101 ∷ 102 ∷ 104 ∷ [])
+      ≡ pair.Measured (record { n = 4; p = 4; q = 32; r = 90; variance = fin false 1 (negsuc 2); noise = fin false 45 (negsuc 6) })
   -- second frame = first + 7 everywhere: P 0, both floats 0
-  pub K2 : (pairSpread 2 2 (all 4 0) ramp (107 ∷ 108 ∷ 109 ∷ 110 ∷ []) ≡ record { n = 4; p = 0 })
-      × (varianceAnswer 2 2 1023 (all 4 0) ramp (107 ∷ 108 ∷ 109 ∷ 110 ∷ []) ≡ variance.Figures 0 32 (ofBits binary64 0))
-      × (noiseAnswer 2 2 1023 (all 4 0) ramp (107 ∷ 108 ∷ 109 ∷ 110 ∷ []) ≡ noise.Figure (ofBits binary64 0) 0 4)
+  pub K2 : pairAnswer 2 2 1023 (all 4 0) ramp (107 ∷ 108 ∷ 109 ∷ 110 ∷ [])
+      ≡ pair.Measured (record { n = 4; p = 0; q = 32; r = 0; variance = ofBits binary64 0; noise = ofBits binary64 0 })
   -- bytes 25 25 25 25 228 unpack to 100 101 102 103
   pub K3 : (unpackAnswer 2 2 5 4 ≡ raw.Done) × (unpackBuffer 2 2 (25 ∷ 25 ∷ 25 ∷ 25 ∷ 228 ∷ []) (all 4 0) ≡ 100 ∷ 101 ∷ 102 ∷ 103 ∷ [])
   -- bytes 25 25 25 26 37 unpack to 101 101 102 104

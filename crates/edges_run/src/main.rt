@@ -1,5 +1,5 @@
 // Document 01's run-only edges: each call is made on both sides of its edge, and what it answers is printed.
-use pair::Noise;
+use pair::Pair;
 use raw::Unpacked;
 use stack::Added;
 use verdict::Refusal;
@@ -26,15 +26,15 @@ fn unpack(width: usize, height: usize) {
 
 // The noise of a 2 by 2 window at full scale 1023.
 fn noise(mask: &[u8], first: &[u16], second: &[u16]) {
-    match pair::pair_noise(2, 2, 1023, mask, first, second) {
-        Noise::Figure { noise: _, r, n } => {
+    match pair::pair_figures(2, 2, 1023, mask, first, second) {
+        Pair::Measured(figures) => {
             io::write_all(1, b"r ");
-            io::print_decimal(1, r);
+            io::print_decimal(1, figures.r);
             io::write_all(1, b" of ");
-            io::print_decimal(1, n);
+            io::print_decimal(1, figures.n);
             io::write_all(1, b" sites\n");
         }
-        Noise::Refused(refusal) => refused(refusal),
+        Pair::Refused(refusal) => refused(refusal),
     }
 }
 

@@ -1,6 +1,6 @@
 pub mod Walk
 pub mod Spreads
 pub mod Frames
-pub mod Measures
-pub mod Calls
+pub mod Accepts
+pub mod Answers
 pub mod Promises

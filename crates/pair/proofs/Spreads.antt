@@ -18,7 +18,7 @@ use Rattle.laws.proofs.Cases.{times-le, true-or-false}
 use Rattle.window.specs.View.{surveyed, seenAt, one, seen}
 use Rattle.window.proofs.Views.{seen-in, seen-out, seen-is, one-is}
 use Rattle.pair.specs.Walk.{totalsOf}
-use Rattle.pair.specs.Pair.{difference, numerator, spreadOf}
+use Rattle.pair.specs.Figures.{difference, numerator, spreadOf}
 use Rattle.pair.specs.declared.Totals.{Totals}
 
 -- a site counts 1, or it counts 0 and 0 is seen there in both frames

@@ -1,3 +1,3 @@
 pub mod Walk
+pub mod Figures
 pub mod Pair
-pub mod Answers

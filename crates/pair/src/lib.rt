@@ -1,24 +1,27 @@
-// The noise of a pair of frames: document 01, "Pair noise".
+// The noise of a pair of frames: document 01, "Pair noise", as document 02 f merges its two calls.
 ghost use mathlib.Core.Path.{_≡_};
-ghost use Prim.Native.Nat.{_*_, _≤_};
+ghost use Prim.Native.Nat.{_*_, _^_, _≤_, _<_};
 ghost use lib.ListN.{length};
 ghost use Rattle.laws.specs.Signed.{apart};
 ghost use Rattle.window.specs.View.{one, seen};
-ghost use Rattle.pair.specs.Walk.{totalsOf, measurement};
-ghost use Rattle.pair.specs.Pair.{spreadOf, pairSpread, framesVerdict, pairVerdict};
-ghost use Rattle.pair.specs.Answers.{varianceAnswer, variancePaperOf, variancePaper, noiseAnswer, noisePaperOf, noisePaper};
+ghost use Rattle.pair.specs.Walk.{totalsOf};
+ghost use Rattle.pair.specs.Figures.{spreadOf, figuresOf};
+ghost use Rattle.pair.specs.Pair.{framesVerdict, pairAnswer, paperOf, pairPaper};
 use verdict::Refusal;
 use verdict::Verdict;
 
-// P, Q and P/Q.
-pub enum Variance {
-    Figures { p: u64, q: u64, variance: f64 },
-    Refused(Refusal),
+// n surveyed sites; P and Q, and the variance P/Q in grey levels squared; r, the root of 2048 × P, and the noise r / (64 × n) in grey levels.
+pub struct PairFigures {
+    pub n: u64,
+    pub p: u64,
+    pub q: u64,
+    pub r: u64,
+    pub variance: f64,
+    pub noise: f64,
 }
 
-// The noise in grey levels, with the r and the n that it is r / (64 × n) of.
-pub enum Noise {
-    Figure { noise: f64, r: u64, n: u64 },
+pub enum Pair {
+    Measured(PairFigures),
     Refused(Refusal),
 }
 
@@ -34,11 +37,6 @@ struct Totals {
 struct Spread {
     n: u64,
     p: u64,
-}
-
-enum Measurement {
-    Taken(Spread),
-    Refused(Refusal),
 }
 
 // Refusals 1, 2, 4, 5 and 6.
@@ -120,74 +118,44 @@ fn spread_of(mask: &[u8], first: &[u16], second: &[u16]) -> Spread
     }
 }
 
-// n and P of two frames, or the refusal.
-fn measure(
+// All six numbers, from n and P of an accepted pair.
+fn figures_of(s: Spread) -> PairFigures
+    requires { ⌜ (2 ≤ s .n) × (s .n ≤ 16384) × (s .p < 2 ^ 53) ⌝ }
+    ensures { λ f. ⌜ f ≡ figuresOf s ⌝ }
+{
+    let q = 2 * (s.n * s.n);
+    let r = exact::root_of(2048 * s.p);
+    let variance = exact::ratio(s.p, q);
+    let noise = exact::ratio(r, 64 * s.n);
+    PairFigures {
+        n: s.n,
+        p: s.p,
+        q,
+        r,
+        variance,
+        noise,
+    }
+}
+
+// The figures of two frames, or the refusal: 1 to 6 are judged before the walk, 7 after it.
+pub fn pair_figures(
     width: usize,
     height: usize,
     full_scale: u64,
     mask: &[u8],
     first: &[u16],
     second: &[u16],
-) -> Measurement
-    ensures { λ r. ⌜ r ≡ measurement (pairVerdict width height «full_scale» (now (mask .entry)) (now (first .entry)) (now (second .entry))) (pairSpread width height (now (mask .entry)) (now (first .entry)) (now (second .entry))) ⌝ }
+) -> Pair
+    ensures answer { λ r. ⌜ r ≡ pairAnswer width height «full_scale» (now (mask .entry)) (now (first .entry)) (now (second .entry)) ⌝ }
+    ensures paper { λ r. ⌜ paperOf r ≡ pairPaper width height «full_scale» (now (mask .entry)) (now (first .entry)) (now (second .entry)) ⌝ }
 {
     let frames = judge(width, height, full_scale, mask, first, second);
     if let Verdict::Refused(refusal) = frames {
-        return Measurement::Refused(refusal);
+        return Pair::Refused(refusal);
     }
     let s = spread_of(mask, first, second);
     match verdict::refuse_if(7, 0, s.n < 2) {
-        Verdict::Refused(refusal) => Measurement::Refused(refusal),
-        Verdict::Clear => Measurement::Taken(s),
-    }
-}
-
-// P, Q and P/Q of two frames, or the refusal.
-pub fn pair_variance(
-    width: usize,
-    height: usize,
-    full_scale: u64,
-    mask: &[u8],
-    first: &[u16],
-    second: &[u16],
-) -> Variance
-    ensures answer { λ r. ⌜ r ≡ varianceAnswer width height «full_scale» (now (mask .entry)) (now (first .entry)) (now (second .entry)) ⌝ }
-    ensures paper { λ r. ⌜ variancePaperOf r ≡ variancePaper width height «full_scale» (now (mask .entry)) (now (first .entry)) (now (second .entry)) ⌝ }
-{
-    match measure(width, height, full_scale, mask, first, second) {
-        Measurement::Refused(refusal) => Variance::Refused(refusal),
-        Measurement::Taken(s) => {
-            let q = 2 * (s.n * s.n);
-            Variance::Figures {
-                p: s.p,
-                q,
-                variance: exact::ratio(s.p, q),
-            }
-        }
-    }
-}
-
-// The noise of two frames, or the refusal.
-pub fn pair_noise(
-    width: usize,
-    height: usize,
-    full_scale: u64,
-    mask: &[u8],
-    first: &[u16],
-    second: &[u16],
-) -> Noise
-    ensures answer { λ r. ⌜ r ≡ noiseAnswer width height «full_scale» (now (mask .entry)) (now (first .entry)) (now (second .entry)) ⌝ }
-    ensures paper { λ r. ⌜ noisePaperOf r ≡ noisePaper width height «full_scale» (now (mask .entry)) (now (first .entry)) (now (second .entry)) ⌝ }
-{
-    match measure(width, height, full_scale, mask, first, second) {
-        Measurement::Refused(refusal) => Noise::Refused(refusal),
-        Measurement::Taken(s) => {
-            let r = exact::root_of(2048 * s.p);
-            Noise::Figure {
-                noise: exact::ratio(r, 64 * s.n),
-                r,
-                n: s.n,
-            }
-        }
+        Verdict::Refused(refusal) => Pair::Refused(refusal),
+        Verdict::Clear => Pair::Measured(figures_of(s)),
     }
 }

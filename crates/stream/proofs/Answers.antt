@@ -1,21 +1,19 @@
--- Three answers as one, and why the job's answer is that of the library's calls.
+-- Two answers as one, and why the job's answer is that of the library's calls.
 use Prim.Native.Nat.{ℕ, _*_, _≤_}
 use mathlib.Core.List.{List}
 use mathlib.Core.Path.{_≡_, refl}
 use native.Mathlib.Omega.{arith}
-use lib.Ieee.{Float}
 use lib.IntN.{ℤ}
 use Rattle.verdict.specs.Verdict.{_⨟_}
 use Rattle.verdict.specs.declared.Refusal.{Refusal}
 use Rattle.verdict.specs.declared.Verdict.{Verdict}
 use Rattle.verdict.specs.declared.Verdict.the-variants as verdict
 use Rattle.window.proofs.Views.{surveyed-most}
-use Rattle.pair.specs.Pair.{spreadOf, pairVerdict}
-use Rattle.pair.specs.Answers.{varianceAnswer, noiseAnswer, noisePaperOf, noisePaper}
-use Rattle.pair.specs.declared.Variance.{Variance}
-use Rattle.pair.specs.declared.Variance.the-variants as variance
-use Rattle.pair.specs.declared.Noise.{Noise}
-use Rattle.pair.specs.declared.Noise.the-variants as noise
+use Rattle.pair.specs.Figures.{spreadOf}
+use Rattle.pair.specs.Pair.{pairVerdict, pairAnswer, paperOf, pairPaper}
+use Rattle.pair.specs.declared.PairFigures.{PairFigures}
+use Rattle.pair.specs.declared.Pair.{Pair}
+use Rattle.pair.specs.declared.Pair.the-variants as pair
 use Rattle.dark.specs.Dark.{darkVerdict, darkAnswer}
 use Rattle.dark.specs.declared.Dark.{Dark}
 use Rattle.dark.specs.declared.Dark.the-variants as dark
@@ -24,37 +22,33 @@ use Rattle.stream.specs.Job.{jobVerdict, jobAnswer}
 use Rattle.stream.specs.Walk.{together, directly}
 use Rattle.stream.specs.declared.Answer.the-variants.{Figures, Refused}
 
--- ---- what three answers make
-pub by-variance : (v : Variance) (x : Noise) (d : Dark) {r : Refusal} → v ≡ variance.Refused r → Refused r ≡ together v x d
-by-variance v x d e = rw e
+-- ---- what two answers make
+pub by-pair : (x : Pair) (d : Dark) {r : Refusal} → x ≡ pair.Refused r → Refused r ≡ together x d
+by-pair x d e = rw e
 
-module _ {v : Variance} {p q : ℕ} {f : Float} (e : v ≡ variance.Figures p q f) where
-  pub by-noise : (x : Noise) (d : Dark) {r : Refusal} → x ≡ noise.Refused r → Refused r ≡ together v x d
-  by-noise x d g = rw (e, g)
+module _ {x : Pair} {f : PairFigures} (e : x ≡ pair.Measured f) {d : Dark} where
+  pub by-dark : {r : Refusal} → d ≡ dark.Refused r → Refused r ≡ together x d
+  by-dark g = rw (e, g)
 
-  module _ {x : Noise} {y : Float} {r n : ℕ} (g : x ≡ noise.Figure y r n) {d : Dark} where
-    pub by-dark : {t : Refusal} → d ≡ dark.Refused t → Refused t ≡ together v x d
-    by-dark k = rw (e, g, k)
+  pub by-both : {a b : ℤ} {m : ℕ} → d ≡ dark.Level a m → b ≡ a → Figures (f .n) (f .p) (f .q) (f .r) (64 * f .n) b m ≡ together x d
+  by-both g k = rw (e, g, k)
 
-    pub by-all : {a b : ℤ} {m : ℕ} → d ≡ dark.Level a m → b ≡ a → Figures n p q r (64 * n) b m ≡ together v x d
-    by-all k l = rw (e, g, k, l)
-
-pub together-same : {v v′ : Variance} {x x′ : Noise} {d d′ : Dark} → v ≡ v′ → x ≡ x′ → d ≡ d′ → together v x d ≡ together v′ x′ d′
-together-same e f g = rw (e, f, g)
+pub together-same : {x x′ : Pair} {d d′ : Dark} → x ≡ x′ → d ≡ d′ → together x d ≡ together x′ d′
+together-same e f = rw (e, f)
 
 pub directly-same : (w h full black : ℕ) (mask : List ℕ) {first second first′ second′ : List ℕ} → first ≡ first′ → second ≡ second′
     → directly w h full black mask first second ≡ directly w h full black mask first′ second′
 directly-same w h full black mask e f = rw (e, f)
 
 -- ---- n is few enough to be multiplied
-pub few-of : {x : Noise} {y : Float} {r n : ℕ} → x ≡ noise.Figure y r n → noisePaperOf x .figures .n ≤ 16384 → n ≤ 16384
+pub few-of : {x : Pair} {f : PairFigures} → x ≡ pair.Measured f → paperOf x .figures .n ≤ 16384 → f .n ≤ 16384
 few-of e h = rw e at h
 
-pub noise-few : (w h full : ℕ) (mask first second : List ℕ) → noisePaper w h full mask first second .figures .n ≤ 16384
-unfolding noisePaper spreadOf
-noise-few w h full mask first second = by (pairVerdict w h full mask first second) refl
+pub pair-few : (w h full : ℕ) (mask first second : List ℕ) → pairPaper w h full mask first second .figures .n ≤ 16384
+unfolding pairPaper spreadOf
+pair-few w h full mask first second = by (pairVerdict w h full mask first second) refl
   where
-    by : (v : Verdict) → pairVerdict w h full mask first second ≡ v → noisePaper w h full mask first second .figures .n ≤ 16384
+    by : (v : Verdict) → pairVerdict w h full mask first second ≡ v → pairPaper w h full mask first second .figures .n ≤ 16384
     by verdict.Clear e =
         rw e (surveyed-most w h mask)
     by (verdict.Refused r) e = rw e (omega arith)
@@ -69,7 +63,7 @@ module _ (s : List ℕ) where
   -- without one, the answer is that of the library's calls on what stands in the stream
   pub calls-are : streamVerdict s ≡ verdict.Clear
       → directly (widthOf s) (heightOf s) (fullOf s) (blackOf s) (maskOf s) (firstOf s) (secondOf s) ≡ jobAnswer s
-  unfolding jobAnswer jobVerdict varianceAnswer noiseAnswer darkAnswer _⨟_
+  unfolding jobAnswer jobVerdict pairAnswer darkAnswer _⨟_
   calls-are clear = by (pairVerdict (widthOf s) (heightOf s) (fullOf s) (maskOf s) (firstOf s) (secondOf s)) (darkVerdict (widthOf s) (heightOf s) (fullOf s) (blackOf s) (maskOf s) (firstOf s)) refl refl
     where
       by : (p d : Verdict) → pairVerdict (widthOf s) (heightOf s) (fullOf s) (maskOf s) (firstOf s) (secondOf s) ≡ p

@@ -16,7 +16,8 @@ use Rattle.verdict.proofs.Answers.{paper-told, was-accepted}
 use Rattle.window.proofs.Views.{Agree}
 use Rattle.raw.specs.Packed.{sample10}
 use Rattle.raw.specs.Unpack.{unpackBuffer}
-use Rattle.pair.specs.Pair.{spreadOf, pairVerdict}
+use Rattle.pair.specs.Figures.{spreadOf}
+use Rattle.pair.specs.Pair.{pairVerdict}
 use Rattle.pair.proofs.Promises as pair
 use Rattle.dark.specs.Dark.{darkVerdict}
 use Rattle.dark.proofs.Promises as dark
@@ -150,9 +151,8 @@ pub record Alike (s t : List ℕ) : Type 0 where
 -- of two that have no fault
 figures-alike : (s t : List ℕ) → Alike s t → streamVerdict s ≡ verdict.Clear → streamVerdict t ≡ verdict.Clear → jobAnswer s ≡ jobAnswer t
 figures-alike s t a clear clear′ =
-    let pairs = pair.blind (widthOf s) (heightOf s) (fullOf s) (a .first) (a .second) in
     sym (calls-are s clear)
-    ∙ together-same (pairs .0) (pairs .1) (dark.blind (widthOf s) (heightOf s) (fullOf s) (blackOf s) (maskOf s) (firstOf s) (firstOf t) (a .first))
+    ∙ together-same (pair.blind (widthOf s) (heightOf s) (fullOf s) (a .first) (a .second)) (dark.blind (widthOf s) (heightOf s) (fullOf s) (blackOf s) (maskOf s) (firstOf s) (firstOf t) (a .first))
     ∙ work-is t clear′ (a .wide) (a .high) (a .full) (a .black) (a .mask) refl refl
 
 -- blind: what a stream's frames hold at unsurveyed sites changes nothing, whatever fault both have

@@ -17,7 +17,8 @@ use Rattle.window.specs.View.{seen, one}
 use Rattle.refusals.specs.Judge.{shapeOf, otherThan, codesOf, samplesOf, maskVerdict, frameVerdict}
 use Rattle.refusals.proofs.Chains.{clear-shape, right-length, clear-length, clear-codes, clear-samples}
 use Rattle.refusals.proofs.Judges.{codesTest, samplesTest, Framed}
-use Rattle.pair.specs.Pair.{spreadOf, pairSpread, framesVerdict, pairVerdict}
+use Rattle.pair.specs.Figures.{spreadOf}
+use Rattle.pair.specs.Pair.{pairSpread, framesVerdict, pairVerdict}
 use Rattle.pair.proofs.Frames.{readable}
 use Rattle.dark.specs.Dark.{darkVerdict}
 use Rattle.stream.specs.Fields.{Field, past, wordAt, fieldAt, fieldsAt, pastAll}

@@ -5,8 +5,8 @@ use lib.IntN.{ℤ, pos}
 use Rattle.verdict.specs.Verdict.{_⨟_}
 use Rattle.verdict.specs.Answer.{answerOf, Paper, acceptedPaper, refusedPaper, paperFor}
 use Rattle.verdict.specs.declared.Verdict.{Verdict}
-use Rattle.pair.specs.Pair.{pairVerdict}
-use Rattle.pair.specs.Answers.{VarianceFigures, varianceFigures, NoiseFigures, noiseFigures}
+use Rattle.pair.specs.Pair.{pairVerdict, pairFigures}
+use Rattle.pair.specs.declared.PairFigures.{PairFigures}
 use Rattle.dark.specs.Dark.{darkVerdict, darkFigures}
 use Rattle.dark.specs.Dark as dark
 use Rattle.stream.specs.Stream.{widthOf, heightOf, fullOf, blackOf, maskOf, firstOf, secondOf, streamVerdict}
@@ -21,11 +21,8 @@ jobVerdict s =
     ⨟ darkVerdict (widthOf s) (heightOf s) (fullOf s) (blackOf s) (maskOf s) (firstOf s)
 
 -- ---- the figures of the library's calls on what stands in the stream, whether they refuse it or not
-abbrev pub varianceIn : List ℕ → VarianceFigures
-varianceIn s = varianceFigures (widthOf s) (heightOf s) (maskOf s) (firstOf s) (secondOf s)
-
-abbrev pub noiseIn : List ℕ → NoiseFigures
-noiseIn s = noiseFigures (widthOf s) (heightOf s) (maskOf s) (firstOf s) (secondOf s)
+abbrev pub pairIn : List ℕ → PairFigures
+pairIn s = pairFigures (widthOf s) (heightOf s) (maskOf s) (firstOf s) (secondOf s)
 
 abbrev pub darkIn : List ℕ → dark.Figures
 darkIn s = darkFigures (widthOf s) (heightOf s) (blackOf s) (maskOf s) (firstOf s)
@@ -46,11 +43,11 @@ noFigures = record { sites = 0; p = 0; q = 0; r = 0; rOver = 0; dark = pos 0; da
 
 abbrev pub jobFigures : List ℕ → JobFigures
 jobFigures s = record {
-  sites = noiseIn s .n;
-  p = varianceIn s .p;
-  q = varianceIn s .q;
-  r = noiseIn s .r;
-  rOver = 64 * noiseIn s .n;
+  sites = pairIn s .n;
+  p = pairIn s .p;
+  q = pairIn s .q;
+  r = pairIn s .r;
+  rOver = 64 * pairIn s .n;
   dark = darkIn s .numerator;
   darkOver = darkIn s .denominator;
 }

@@ -5,14 +5,13 @@ ghost use lib.ListN.{length, getD, take};
 ghost use Rattle.verdict.specs.declared.Verdict.the-variants.{Clear};
 ghost use Rattle.window.specs.Shape.{sitesOf};
 ghost use Rattle.raw.specs.Unpack.{unpackVerdict};
-ghost use Rattle.pair.specs.Answers.{noisePaperOf};
+ghost use Rattle.pair.specs.Pair.{paperOf as pairPaperOf};
 ghost use Rattle.stream.specs.Fields.{wordAt, field, fieldAt, fieldsAt, pastAll, extraAt};
 ghost use Rattle.stream.specs.Stream.{sideFields, bodyFields, wideSides, faultsOf, unpacked, streamVerdict};
 ghost use Rattle.stream.specs.Job.{jobAnswer, paperOf, jobPaper};
 ghost use Rattle.stream.specs.Walk.{together, directly};
 use dark::Dark;
-use pair::Noise;
-use pair::Variance;
+use pair::Pair;
 use verdict::Refusal;
 use verdict::Verdict;
 
@@ -130,26 +129,23 @@ fn frame_of(width: usize, height: usize, body: &[u8]) -> [u16; 4096]
     frame
 }
 
-// Three answers as one: the first refusal, or what is printed.
-fn together(variance: Variance, noise: Noise, dark: Dark) -> Answer
-    requires { ⌜ noisePaperOf noise .figures .n ≤ 16384 ⌝ }
-    ensures { λ r. ⌜ r ≡ together variance noise dark ⌝ }
+// Two answers as one: the first refusal, or what is printed.
+fn together(pair: Pair, dark: Dark) -> Answer
+    requires { ⌜ pairPaperOf pair .figures .n ≤ 16384 ⌝ }
+    ensures { λ r. ⌜ r ≡ together pair dark ⌝ }
 {
-    match variance {
-        Variance::Refused(refusal) => Answer::Refused(refusal),
-        Variance::Figures { p, q, variance: _ } => match noise {
-            Noise::Refused(refusal) => Answer::Refused(refusal),
-            Noise::Figure { noise: _, r, n } => match dark {
-                Dark::Refused(refusal) => Answer::Refused(refusal),
-                Dark::Level(level, over) => Answer::Figures {
-                    sites: n,
-                    p,
-                    q,
-                    r,
-                    r_over: 64 * n,
-                    dark: level,
-                    dark_over: over,
-                },
+    match pair {
+        Pair::Refused(refusal) => Answer::Refused(refusal),
+        Pair::Measured(figures) => match dark {
+            Dark::Refused(refusal) => Answer::Refused(refusal),
+            Dark::Level(level, over) => Answer::Figures {
+                sites: figures.n,
+                p: figures.p,
+                q: figures.q,
+                r: figures.r,
+                r_over: 64 * figures.n,
+                dark: level,
+                dark_over: over,
             },
         },
     }
@@ -167,10 +163,9 @@ fn figures(
 ) -> Answer
     ensures { λ r. ⌜ r ≡ directly width height «full_scale» «black_level» (now (mask .entry)) (now (first .entry)) (now (second .entry)) ⌝ }
 {
-    let variance = pair::pair_variance(width, height, full_scale, mask, first, second);
-    let noise = pair::pair_noise(width, height, full_scale, mask, first, second);
+    let pair = pair::pair_figures(width, height, full_scale, mask, first, second);
     let dark = dark::dark_level(width, height, full_scale, black_level, mask, first);
-    together(variance, noise, dark)
+    together(pair, dark)
 }
 
 // The frames of two bodies, and the library's calls on them.

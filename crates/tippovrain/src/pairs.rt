@@ -1,11 +1,10 @@
 // Pair noise.
 ghost use mathlib.Core.Path.{_≡_};
-ghost use Rattle.pair.specs.Answers.{variancePaper, noisePaper};
-use pair::Noise;
-use pair::Variance;
+ghost use Rattle.pair.specs.Pair.{pairPaper};
+use pair::Pair;
 
 #[no_mangle]
-pub extern "C" fn tip_pair_variance(
+pub extern "C" fn tip_pair_figures(
     width: usize,
     height: usize,
     full_scale: u64,
@@ -13,73 +12,40 @@ pub extern "C" fn tip_pair_variance(
     first: &[u16],
     second: &[u16],
     place: &mut u64,
+    n: &mut u64,
     p: &mut u64,
     q: &mut u64,
-    variance: &mut f64,
-) -> u64
-    ensures number { λ r. ⌜ r ≡ variancePaper width height «full_scale» (now (mask .entry)) (now (first .entry)) (now (second .entry)) .number ⌝ }
-    ensures place { λ r. ⌜ now (place .exit) ≡ variancePaper width height «full_scale» (now (mask .entry)) (now (first .entry)) (now (second .entry)) .place ⌝ }
-    ensures p { λ r. ⌜ now (p .exit) ≡ variancePaper width height «full_scale» (now (mask .entry)) (now (first .entry)) (now (second .entry)) .figures .p ⌝ }
-    ensures q { λ r. ⌜ now (q .exit) ≡ variancePaper width height «full_scale» (now (mask .entry)) (now (first .entry)) (now (second .entry)) .figures .q ⌝ }
-    ensures variance { λ r. ⌜ now (variance .exit) ≡ variancePaper width height «full_scale» (now (mask .entry)) (now (first .entry)) (now (second .entry)) .figures .variance ⌝ }
-{
-    match pair::pair_variance(width, height, full_scale, mask, first, second) {
-        Variance::Figures {
-            p: numerator,
-            q: denominator,
-            variance: figure,
-        } => {
-            *place = 0;
-            *p = numerator;
-            *q = denominator;
-            *variance = figure;
-            0
-        }
-        Variance::Refused(refusal) => {
-            *place = refusal.place as u64;
-            *p = 0;
-            *q = 0;
-            *variance = 0.0;
-            refusal.number
-        }
-    }
-}
-
-#[no_mangle]
-pub extern "C" fn tip_pair_noise(
-    width: usize,
-    height: usize,
-    full_scale: u64,
-    mask: &[u8],
-    first: &[u16],
-    second: &[u16],
-    place: &mut u64,
     r: &mut u64,
-    n: &mut u64,
+    variance: &mut f64,
     noise: &mut f64,
 ) -> u64
-    ensures number { λ a. ⌜ a ≡ noisePaper width height «full_scale» (now (mask .entry)) (now (first .entry)) (now (second .entry)) .number ⌝ }
-    ensures place { λ a. ⌜ now (place .exit) ≡ noisePaper width height «full_scale» (now (mask .entry)) (now (first .entry)) (now (second .entry)) .place ⌝ }
-    ensures r { λ a. ⌜ now (r .exit) ≡ noisePaper width height «full_scale» (now (mask .entry)) (now (first .entry)) (now (second .entry)) .figures .r ⌝ }
-    ensures n { λ a. ⌜ now (n .exit) ≡ noisePaper width height «full_scale» (now (mask .entry)) (now (first .entry)) (now (second .entry)) .figures .n ⌝ }
-    ensures noise { λ a. ⌜ now (noise .exit) ≡ noisePaper width height «full_scale» (now (mask .entry)) (now (first .entry)) (now (second .entry)) .figures .noise ⌝ }
+    ensures number { λ a. ⌜ a ≡ pairPaper width height «full_scale» (now (mask .entry)) (now (first .entry)) (now (second .entry)) .number ⌝ }
+    ensures place { λ a. ⌜ now (place .exit) ≡ pairPaper width height «full_scale» (now (mask .entry)) (now (first .entry)) (now (second .entry)) .place ⌝ }
+    ensures n { λ a. ⌜ now (n .exit) ≡ pairPaper width height «full_scale» (now (mask .entry)) (now (first .entry)) (now (second .entry)) .figures .n ⌝ }
+    ensures p { λ a. ⌜ now (p .exit) ≡ pairPaper width height «full_scale» (now (mask .entry)) (now (first .entry)) (now (second .entry)) .figures .p ⌝ }
+    ensures q { λ a. ⌜ now (q .exit) ≡ pairPaper width height «full_scale» (now (mask .entry)) (now (first .entry)) (now (second .entry)) .figures .q ⌝ }
+    ensures r { λ a. ⌜ now (r .exit) ≡ pairPaper width height «full_scale» (now (mask .entry)) (now (first .entry)) (now (second .entry)) .figures .r ⌝ }
+    ensures variance { λ a. ⌜ now (variance .exit) ≡ pairPaper width height «full_scale» (now (mask .entry)) (now (first .entry)) (now (second .entry)) .figures .variance ⌝ }
+    ensures noise { λ a. ⌜ now (noise .exit) ≡ pairPaper width height «full_scale» (now (mask .entry)) (now (first .entry)) (now (second .entry)) .figures .noise ⌝ }
 {
-    match pair::pair_noise(width, height, full_scale, mask, first, second) {
-        Noise::Figure {
-            noise: figure,
-            r: root,
-            n: sites,
-        } => {
+    match pair::pair_figures(width, height, full_scale, mask, first, second) {
+        Pair::Measured(figures) => {
             *place = 0;
-            *r = root;
-            *n = sites;
-            *noise = figure;
+            *n = figures.n;
+            *p = figures.p;
+            *q = figures.q;
+            *r = figures.r;
+            *variance = figures.variance;
+            *noise = figures.noise;
             0
         }
-        Noise::Refused(refusal) => {
+        Pair::Refused(refusal) => {
             *place = refusal.place as u64;
-            *r = 0;
             *n = 0;
+            *p = 0;
+            *q = 0;
+            *r = 0;
+            *variance = 0.0;
             *noise = 0.0;
             refusal.number
         }
