@@ -26,7 +26,7 @@ mul-t7 : tie.Need-mul-t7
 mul-t7 c = omega (arith, product (c .before .before), square (c .before))
 
 sub-t8 : tie.Need-sub-t8
-sub-t8 c = square (c .before)
+sub-t8 c = omega (arith, square (c .before))
 
 returns : tie.Need-returns
 returns c = spread-from _ _ _ _ _ (c .before .before .sums .ensures .0) _ (c .before .apart .ensures)
