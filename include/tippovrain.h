@@ -19,10 +19,11 @@
  *       const uint8_t mask[8] = {0, 0, 0, 0, 0, 1, 0, 0};
  *       const uint16_t first[8] = {100, 101, 102, 103, 100, 65535, 102, 103};
  *       const uint16_t second[8] = {101, 101, 102, 104, 100, 65535, 103, 103};
- *       uint64_t refusal, place, r, n;
- *       double noise;
+ *       uint64_t refusal, place, n, p, q, r;
+ *       double variance, noise;
  *
- *       refusal = tip_pair_noise(4, 2, 1023, mask, 8, first, 8, second, 8, &place, &r, &n, &noise);
+ *       refusal = tip_pair_figures(4, 2, 1023, mask, 8, first, 8, second, 8,
+ *                                  &place, &n, &p, &q, &r, &variance, &noise);
  *       if (refusal != 0) {
  *           fprintf(stderr, "refused %d at %d\n", (int)refusal, (int)place);
  *           return 1;
@@ -125,55 +126,43 @@ uint64_t tip_unpack_raw10(size_t width, size_t height,
                           uint64_t *place);
 
 /*
- * The variance of a pair of frames, in grey levels squared: EMVA 1288, release 3 form, in which the mean difference
- * is taken off. d is second minus first at a surveyed site (mask code 0), n the count of surveyed sites.
+ * The figures of a pair of frames: the variance, in grey levels squared, and the noise, its root, in grey levels.
+ * EMVA 1288, release 3 form, in which the mean difference is taken off. d is second minus first at a surveyed site
+ * (mask code 0).
  *
  *   full_scale   grey levels, 1 to 4095
  *   mask         width * height codes, only read: 0 surveyed, 1 gap, 2 defect, 3 filled
  *   first,       width * height samples each, only read; a sample at any code but 0 may be any number, and changes
  *   second       nothing. Both may be one buffer: p is then 0
  *   place        written: the first offending site for 5 and 6, else 0
- *   p            written: n * (sum of d * d) - (sum of d) * (sum of d), at most the square of n * full_scale, so below
- *                2^53 and exact as a double, as q is
- *   q            written: 2 * n * n
- *   variance     written: p / q, rounded once, in grey levels squared
+ *   n            written: the count of surveyed sites, 2 to 16384
+ *   p            written: n * (sum of d * d) - (sum of d) * (sum of d), 0 to the square of n * full_scale: 0 exactly
+ *                where all d are equal, and below 2^53, so exact as a double, as q is
+ *   q            written: 2 * n * n, 8 to 2^29: the exact variance is p / q grey levels squared
+ *   r            written: the greatest whole number with r * r <= 2048 * p, 0 to 3036259044
+ *   variance     written: p / q, rounded once, so off by at most one part in 2^52; grey levels squared, 0 to
+ *                full_scale * full_scale / 2
+ *   noise        written: r / (64 * n), rounded once; grey levels, 0 to 0.7072 * full_scale. 32 * n * noise is at most
+ *                1 from the root of 512 * p, and noise is 0 where p is
+ *
+ * These are the ranges of an accepted call; on a refusal all six numbers are 0, variance and noise in every bit.
  *
  * Refusals, in the order tested: 1; 2; 4 (mask, first or second); 5; 6 (all sites of first, then all of second);
  * 7 (fewer than 2 surveyed sites).
  *
  *   const uint8_t mask[4] = {0, 0, 0, 0};
  *   const uint16_t first[4] = {100, 101, 102, 103}, second[4] = {101, 101, 102, 104};
- *   uint64_t place, p, q;
- *   double variance;
- *   tip_pair_variance(2, 2, 1023, mask, 4, first, 4, second, 4, &place, &p, &q, &variance);
- *                                                        gives 0, and p is 4, q 32, variance 0.125
+ *   uint64_t place, n, p, q, r;
+ *   double variance, noise;
+ *   tip_pair_figures(2, 2, 1023, mask, 4, first, 4, second, 4, &place, &n, &p, &q, &r, &variance, &noise);
+ *                                       gives 0, and n is 4, p 4, q 32, r 90, variance 0.125, noise 0.3515625
  */
-uint64_t tip_pair_variance(size_t width, size_t height, uint64_t full_scale,
-                           const uint8_t *mask, size_t mask_len,
-                           const uint16_t *first, size_t first_len,
-                           const uint16_t *second, size_t second_len,
-                           uint64_t *place, uint64_t *p, uint64_t *q, double *variance);
-
-/*
- * The noise of a pair of frames, in grey levels: the root of the variance above. Inputs, place and refusals are those
- * of tip_pair_variance.
- *
- *   r       written: the greatest whole number with r * r <= 2048 * p, with the p of tip_pair_variance
- *   n       written: the count of surveyed sites, 2 or more
- *   noise   written: r / (64 * n), rounded once, in grey levels; 32 * n * noise is at most 1 from the root of 512 * p,
- *           and noise is 0 where p is
- *
- *   With mask, first and second as above:
- *   uint64_t place, r, n;
- *   double noise;
- *   tip_pair_noise(2, 2, 1023, mask, 4, first, 4, second, 4, &place, &r, &n, &noise);
- *                                                        gives 0, and r is 90, n 4, noise 0.3515625
- */
-uint64_t tip_pair_noise(size_t width, size_t height, uint64_t full_scale,
-                        const uint8_t *mask, size_t mask_len,
-                        const uint16_t *first, size_t first_len,
-                        const uint16_t *second, size_t second_len,
-                        uint64_t *place, uint64_t *r, uint64_t *n, double *noise);
+uint64_t tip_pair_figures(size_t width, size_t height, uint64_t full_scale,
+                          const uint8_t *mask, size_t mask_len,
+                          const uint16_t *first, size_t first_len,
+                          const uint16_t *second, size_t second_len,
+                          uint64_t *place, uint64_t *n, uint64_t *p, uint64_t *q, uint64_t *r,
+                          double *variance, double *noise);
 
 /*
  * The dark level, in grey levels: (sum - black_level * n) / n, with the sum of the samples at the n surveyed sites
@@ -464,8 +453,8 @@ uint64_t tip_colour_ratios(size_t width, size_t height, uint64_t full_scale, uin
  *   place   written: the offset of the field's first byte for 20, 21 and 22, of the first extra byte for 23, the site
  *           for 5 and 6, else 0
  *   sites   written: n, the count of surveyed sites
- *   p, q    written: the variance of the pair is p / q grey levels squared, as tip_pair_variance
- *   r       written: the noise of the pair is r / (64 * n) grey levels, as tip_pair_noise
+ *   p, q    written: the variance of the pair is p / q grey levels squared, as tip_pair_figures
+ *   r       written: the noise of the pair is r / (64 * n) grey levels, likewise
  *   dark    written: the dark level of the first frame is dark / n grey levels, as tip_dark_level
  *
  * Refusals, first met in the stream. In a field: 21 (another tag than the next due), 20 (the input ends inside the
