@@ -7,9 +7,9 @@ use crate::{native, Fraction, Refusal, SignedFraction};
 pub struct JobFigures {
     /// How many sites are surveyed.
     pub sites: u64,
-    /// The variance of the pair, in grey levels squared, as [`pair_variance`](crate::pair_variance).
+    /// The variance of the pair, in grey levels squared, as [`pair_figures`](crate::pair_figures).
     pub variance: Fraction,
-    /// The noise of the pair, in grey levels, as [`pair_noise`](crate::pair_noise): r over 64 * sites.
+    /// The noise of the pair, in grey levels, likewise: r over 64 * sites.
     pub noise: Fraction,
     /// The first frame's dark level, in grey levels, as [`dark_level`](crate::dark_level).
     pub dark: SignedFraction,

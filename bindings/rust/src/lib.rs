@@ -7,7 +7,7 @@
 //! Two frames of one scene, four sites wide and two high, with a gap at site 5:
 //!
 //! ```
-//! use tippovrain::{pair_noise, Refusal, Window, GAP};
+//! use tippovrain::{pair_figures, Refusal, Window, GAP};
 //!
 //! # fn main() -> Result<(), Refusal> {
 //! let window = Window { width: 4, height: 2, full_scale: 1023 };
@@ -15,9 +15,9 @@
 //! let first = [100, 101, 102, 103, 100, 65535, 102, 103];
 //! let second = [101, 101, 102, 104, 100, 65535, 103, 103];
 //!
-//! let noise = pair_noise(window, &mask, &first, &second)?;
-//! assert_eq!((noise.r, noise.n), (156, 7));
-//! println!("{:.6} grey levels over {} surveyed sites", noise.figure, noise.n);
+//! let pair = pair_figures(window, &mask, &first, &second)?;
+//! assert_eq!((pair.r, pair.n), (156, 7));
+//! println!("{:.6} grey levels over {} surveyed sites", pair.noise, pair.n);
 //! # Ok(())
 //! # }
 //! ```
@@ -79,7 +79,7 @@ pub use dark::dark_level;
 pub use figures::{Fraction, SignedFraction, Variance};
 pub use job::{job, JobFigures};
 pub use lines::{defective_columns, defective_rows};
-pub use pair::{pair_noise, pair_variance, Noise};
+pub use pair::{pair_figures, PairFigures};
 pub use pattern::{pattern_horizontal, pattern_vertical, PatternNoise};
 pub use raw::unpack_raw10;
 pub use refusal::Refusal;

@@ -54,14 +54,10 @@ calls! {
         reads(bytes: u8)
         writes(out: u16)
         answers();
-    tip_pair_variance(width: usize, height: usize, full_scale: u64)
+    tip_pair_figures(width: usize, height: usize, full_scale: u64)
         reads(mask: u8, first: u16, second: u16)
         writes()
-        answers(p: u64, q: u64, variance: f64);
-    tip_pair_noise(width: usize, height: usize, full_scale: u64)
-        reads(mask: u8, first: u16, second: u16)
-        writes()
-        answers(r: u64, n: u64, noise: f64);
+        answers(n: u64, p: u64, q: u64, r: u64, variance: f64, noise: f64);
     tip_dark_level(width: usize, height: usize, full_scale: u64, black_level: u64)
         reads(mask: u8, frame: u16)
         writes()

@@ -55,31 +55,29 @@ fn raw10() {
 
 #[test]
 fn pair() {
-    let variance = Variance {
-        exact: unsigned(4, 32),
-        figure: 0.125,
-    };
-    assert_eq!(pair_variance(SMALL, &[0; 4], &FIRST, &SECOND), Ok(variance));
-    let noise = Noise {
-        figure: 0.3515625,
-        r: 90,
+    let figures = |p, variance, r, noise| PairFigures {
         n: 4,
+        variance: Variance {
+            exact: unsigned(p, 32),
+            figure: variance,
+        },
+        r,
+        noise,
     };
-    assert_eq!(pair_noise(SMALL, &[0; 4], &FIRST, &SECOND), Ok(noise));
-    // one buffer may be lent twice to be read
     assert_eq!(
-        pair_noise(SMALL, &[0; 4], &FIRST, &FIRST).map(|noise| noise.figure),
-        Ok(0.0)
+        pair_figures(SMALL, &[0; 4], &FIRST, &SECOND),
+        Ok(figures(4, 0.125, 90, 0.3515625))
+    );
+    // one buffer may be lent twice to be read; p is not n here, as it is in K1
+    assert_eq!(
+        pair_figures(SMALL, &[0; 4], &FIRST, &FIRST),
+        Ok(figures(0, 0.0, 0, 0.0))
     );
 
     // each with all right that is tested before it, and something wrong that is tested after it
     let refuse = |window, mask: &[u8], second: &[u16], number, place| {
         assert_eq!(
-            pair_variance(window, mask, &FIRST, second),
-            refused(number, place)
-        );
-        assert_eq!(
-            pair_noise(window, mask, &FIRST, second),
+            pair_figures(window, mask, &FIRST, second),
             refused(number, place)
         );
     };
@@ -417,6 +415,7 @@ fn refusals_in_words() {
     assert!(begins(22, "refused 22 at byte 3: the length of the field that begins here"));
     assert!(begins(12, "refused 12: the stack is full"));
     // an answer can go where any error goes
-    let error: Box<dyn std::error::Error> = Box::new(pair_noise(SMALL, &[], &[], &[]).unwrap_err());
+    let refusal = pair_figures(SMALL, &[], &[], &[]).unwrap_err();
+    let error: Box<dyn std::error::Error> = Box::new(refusal);
     assert!(error.to_string().starts_with("refused 4: a buffer"));
 }
