@@ -13,7 +13,7 @@
 /* Four sites wide, two high; samples of 10 bits, so a full scale of 1023 grey levels. */
 enum { WIDTH = 4, HEIGHT = 2, SITES = WIDTH * HEIGHT, FULL_SCALE = 1023, BLACK_LEVEL = 64 };
 
-/* What a refusal of the three calls below means. */
+/* What a refusal of the two calls below means. */
 static const char *meaning(uint64_t number)
 {
     switch (number) {
@@ -42,15 +42,12 @@ int main(void)
     const uint16_t first[SITES] = {100, 101, 102, 103, 100, 65535, 102, 103};
     const uint16_t second[SITES] = {101, 101, 102, 104, 100, 65535, 103, 103};
     uint8_t mask[SITES] = {0, 0, 0, 0, 0, 1, 0, 0};
-    uint64_t refusal, place, p, q, r, n, dark_sites;
+    uint64_t refusal, place, n, p, q, r, dark_sites;
     int64_t dark;
     double variance, noise;
 
-    refusal = tip_pair_variance(WIDTH, HEIGHT, FULL_SCALE, mask, SITES, first, SITES, second, SITES,
-                                &place, &p, &q, &variance);
-    if (refusal == 0)
-        refusal = tip_pair_noise(WIDTH, HEIGHT, FULL_SCALE, mask, SITES, first, SITES, second, SITES,
-                                 &place, &r, &n, &noise);
+    refusal = tip_pair_figures(WIDTH, HEIGHT, FULL_SCALE, mask, SITES, first, SITES, second, SITES,
+                               &place, &n, &p, &q, &r, &variance, &noise);
     if (refusal == 0)
         refusal = tip_dark_level(WIDTH, HEIGHT, FULL_SCALE, BLACK_LEVEL, mask, SITES, first, SITES,
                                  &place, &dark, &dark_sites);
@@ -65,8 +62,8 @@ int main(void)
 
     /* Were the gap surveyed, its sample would count, and is above full scale. */
     mask[5] = 0;
-    refusal = tip_pair_noise(WIDTH, HEIGHT, FULL_SCALE, mask, SITES, first, SITES, second, SITES,
-                             &place, &r, &n, &noise);
+    refusal = tip_pair_figures(WIDTH, HEIGHT, FULL_SCALE, mask, SITES, first, SITES, second, SITES,
+                               &place, &n, &p, &q, &r, &variance, &noise);
     printf("without the gap: ");
     if (refusal == 0)
         printf("%.6f grey levels\n", noise);

@@ -2,7 +2,7 @@
 //! `examples/noise.c` is the same program in C.
 
 use std::process::ExitCode;
-use tippovrain::{dark_level, pair_noise, pair_variance, Refusal, Window, GAP, SURVEYED};
+use tippovrain::{dark_level, pair_figures, Refusal, Window, GAP, SURVEYED};
 
 fn main() -> ExitCode {
     match figures() {
@@ -27,26 +27,25 @@ fn figures() -> Result<(), Refusal> {
     let mut mask = [SURVEYED; 8];
     mask[5] = GAP;
 
-    let variance = pair_variance(window, &mask, &first, &second)?;
-    let noise = pair_noise(window, &mask, &first, &second)?;
+    let pair = pair_figures(window, &mask, &first, &second)?;
     let dark = dark_level(window, 64, &mask, &first)?;
-    println!("sites: {} of {} surveyed", noise.n, mask.len());
+    println!("sites: {} of {} surveyed", pair.n, mask.len());
     println!(
         "variance: {} = {:.6} grey levels squared",
-        variance.exact, variance.figure
+        pair.variance.exact, pair.variance.figure
     );
     println!(
         "noise: {}/{} = {:.6} grey levels",
-        noise.r,
-        64 * noise.n,
-        noise.figure
+        pair.r,
+        64 * pair.n,
+        pair.noise
     );
     println!("dark level: {dark} grey levels above black");
 
     // Were the gap surveyed, its sample would count, and is above full scale.
     mask[5] = SURVEYED;
-    match pair_noise(window, &mask, &first, &second) {
-        Ok(noise) => println!("without the gap: {:.6} grey levels", noise.figure),
+    match pair_figures(window, &mask, &first, &second) {
+        Ok(pair) => println!("without the gap: {:.6} grey levels", pair.noise),
         Err(refusal) => println!("without the gap: {refusal}"),
     }
     Ok(())
