@@ -151,26 +151,23 @@ static uint64_t bits(double x)
     return of.bits;
 }
 
-/* ---- tip_pair_variance, tip_pair_noise ---- */
+/* ---- tip_pair_figures ---- */
 
-static int has_variance(size_t side, const uint8_t *mask, uint64_t full_scale, const uint16_t *first, const uint16_t *second,
-                        uint64_t number, uint64_t place, uint64_t p, uint64_t q, double variance)
-{
-    uint64_t at = UNWRITTEN, got_p = UNWRITTEN, got_q = UNWRITTEN;
-    double got = UNWRITTEN;
-    size_t sites = side * side;
-    return tip_pair_variance(side, side, full_scale, mask, sites, first, sites, second, sites, &at, &got_p, &got_q, &got) == number
-        && at == place && got_p == p && got_q == q && bits(got) == bits(variance);
-}
+struct pair_figures {
+    uint64_t n, p, q, r;
+    double variance, noise;
+};
 
-static int has_noise(size_t side, const uint8_t *mask, uint64_t full_scale, const uint16_t *first, const uint16_t *second,
-                     uint64_t number, uint64_t place, uint64_t r, uint64_t n, double noise)
+static int has_figures(size_t side, const uint8_t *mask, uint64_t full_scale, const uint16_t *first, const uint16_t *second,
+                       uint64_t number, uint64_t place, const struct pair_figures *figures)
 {
-    uint64_t at = UNWRITTEN, got_r = UNWRITTEN, got_n = UNWRITTEN;
-    double got = UNWRITTEN;
+    uint64_t at = UNWRITTEN;
+    struct pair_figures got = {UNWRITTEN, UNWRITTEN, UNWRITTEN, UNWRITTEN, UNWRITTEN, UNWRITTEN};
     size_t sites = side * side;
-    return tip_pair_noise(side, side, full_scale, mask, sites, first, sites, second, sites, &at, &got_r, &got_n, &got) == number
-        && at == place && got_r == r && got_n == n && bits(got) == bits(noise);
+    return tip_pair_figures(side, side, full_scale, mask, sites, first, sites, second, sites,
+                            &at, &got.n, &got.p, &got.q, &got.r, &got.variance, &got.noise) == number
+        && at == place && got.n == figures->n && got.p == figures->p && got.q == figures->q && got.r == figures->r
+        && bits(got.variance) == bits(figures->variance) && bits(got.noise) == bits(figures->noise);
 }
 
 static void pair(void)
@@ -178,26 +175,22 @@ static void pair(void)
     static const uint16_t drifted[4] = {107, 108, 109, 110};
     /* 0 and 4095 in turn, one against the other: p is (16384 * 4095)^2, the greatest of all windows. */
     static uint16_t low_first[128 * 128], high_first[128 * 128];
+    static const struct pair_figures none, k1 = {4, 4, 32, 90, 0.125, 90.0 / 256.0}, equal = {4, 0, 32, 0, 0.0, 0.0},
+        greatest = {16384, 4501400872550400, 536870912, 3036259044, 8384512.5, 3036259044.0 / (64.0 * 16384.0)};
+    const char *call = "tip_pair_figures";
 
     for (size_t i = 0; i < COUNT(low_first); i++) {
         low_first[i] = i % 2 ? 4095 : 0;
         high_first[i] = i % 2 ? 0 : 4095;
     }
-    check("tip_pair_variance", "K1", has_variance(2, all_surveyed, 1023, k1_first, k1_second, 0, 0, 4, 32, 0.125));
-    check("tip_pair_variance", "K2", has_variance(2, all_surveyed, 1023, k1_first, drifted, 0, 0, 0, 32, 0.0));
-    check("tip_pair_variance", "the greatest p",
-          has_variance(128, great_surveyed, 4095, low_first, high_first, 0, 0, 4501400872550400, 536870912, 8384512.5));
-    check("tip_pair_variance", "one frame twice", has_variance(2, all_surveyed, 1023, k1_first, k1_first, 0, 0, 0, 32, 0.0));
-    check("tip_pair_variance", "refused 2", has_variance(2, all_surveyed, 4096, k1_first, k1_second, 2, 0, 0, 0, 0.0));
-    check("tip_pair_variance", "refused 5 at 2", has_variance(2, bad_code, 1023, k1_first, k1_second, 5, 2, 0, 0, 0.0));
-    check("tip_pair_variance", "refused 6 at 3", has_variance(2, all_surveyed, 103, k1_first, k1_second, 6, 3, 0, 0, 0.0));
-    check("tip_pair_variance", "refused 7", has_variance(2, one_surveyed, 1023, k1_first, k1_second, 7, 0, 0, 0, 0.0));
-    check("tip_pair_noise", "K1", has_noise(2, all_surveyed, 1023, k1_first, k1_second, 0, 0, 90, 4, 90.0 / 256.0));
-    check("tip_pair_noise", "K2", has_noise(2, all_surveyed, 1023, k1_first, drifted, 0, 0, 0, 4, 0.0));
-    check("tip_pair_noise", "the greatest p",
-          has_noise(128, great_surveyed, 4095, low_first, high_first, 0, 0, 3036259044, 16384, 3036259044.0 / (64.0 * 16384.0)));
-    check("tip_pair_noise", "refused 6 at 3", has_noise(2, all_surveyed, 103, k1_first, k1_second, 6, 3, 0, 0, 0.0));
-    check("tip_pair_noise", "refused 7", has_noise(2, one_surveyed, 1023, k1_first, k1_second, 7, 0, 0, 0, 0.0));
+    check(call, "K1", has_figures(2, all_surveyed, 1023, k1_first, k1_second, 0, 0, &k1));
+    check(call, "K2", has_figures(2, all_surveyed, 1023, k1_first, drifted, 0, 0, &equal));
+    check(call, "the greatest p", has_figures(128, great_surveyed, 4095, low_first, high_first, 0, 0, &greatest));
+    check(call, "one frame twice", has_figures(2, all_surveyed, 1023, k1_first, k1_first, 0, 0, &equal));
+    check(call, "refused 2", has_figures(2, all_surveyed, 4096, k1_first, k1_second, 2, 0, &none));
+    check(call, "refused 5 at 2", has_figures(2, bad_code, 1023, k1_first, k1_second, 5, 2, &none));
+    check(call, "refused 6 at 3", has_figures(2, all_surveyed, 103, k1_first, k1_second, 6, 3, &none));
+    check(call, "refused 7", has_figures(2, one_surveyed, 1023, k1_first, k1_second, 7, 0, &none));
 }
 
 /* ---- tip_dark_level ---- */
