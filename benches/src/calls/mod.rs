@@ -16,8 +16,7 @@ use crate::contest::Contested;
 pub fn all() -> Vec<Box<dyn Contested>> {
     vec![
         Box::new(unpack_raw10::contest()),
-        Box::new(pair::variance()),
-        Box::new(pair::noise()),
+        Box::new(pair::contest()),
         Box::new(dark::contest()),
         Box::new(stack::add()),
         Box::new(stack::variance()),

@@ -2,7 +2,7 @@ use super::window::{accepted, codes, frame, mask, samples, shape, Refusal, ACCEP
 use crate::contest::Contest;
 
 extern "C" {
-    fn tip_pair_variance(
+    fn tip_pair_figures(
         width: usize,
         height: usize,
         full_scale: u64,
@@ -13,23 +13,11 @@ extern "C" {
         second: *const u16,
         second_len: usize,
         place: *mut u64,
+        n: *mut u64,
         p: *mut u64,
         q: *mut u64,
-        variance: *mut f64,
-    ) -> u64;
-    fn tip_pair_noise(
-        width: usize,
-        height: usize,
-        full_scale: u64,
-        mask: *const u8,
-        mask_len: usize,
-        first: *const u16,
-        first_len: usize,
-        second: *const u16,
-        second_len: usize,
-        place: *mut u64,
         r: *mut u64,
-        n: *mut u64,
+        variance: *mut f64,
         noise: *mut f64,
     ) -> u64;
 }
@@ -43,38 +31,19 @@ pub struct Input {
     second: Vec<u16>,
 }
 
-/// The refusal, two whole numbers and a float: P, Q and the variance, or r, n and the noise.
 #[derive(Debug, PartialEq)]
 pub struct Output {
     number: u64,
     place: u64,
-    whole: [u64; 2],
-    figure: f64,
+    /// n, P, Q and r.
+    whole: [u64; 4],
+    /// The variance and the noise.
+    floats: [f64; 2],
 }
 
-pub fn variance() -> Contest<Input, Output> {
-    contest(
-        "tip_pair_variance",
-        library_variance,
-        [plain_variance::<false>, plain_variance::<true>],
-    )
-}
-
-pub fn noise() -> Contest<Input, Output> {
-    contest(
-        "tip_pair_noise",
-        library_noise,
-        [plain_noise::<false>, plain_noise::<true>],
-    )
-}
-
-fn contest(
-    call: &'static str,
-    library: fn(&Input, &mut Output),
-    [indexed, walk]: [fn(&Input, &mut Output); 2],
-) -> Contest<Input, Output> {
+pub fn contest() -> Contest<Input, Output> {
     Contest {
-        call,
+        call: "tip_pair_figures",
         inputs: vec![
             ("128 x 128", input(128, 1023, |_| {})),
             ("refused 2", input(128, 4096, |_| {})),
@@ -86,11 +55,11 @@ fn contest(
         lent: |_| Output {
             number: 77,
             place: 77,
-            whole: [77; 2],
-            figure: 77.0,
+            whole: [77; 4],
+            floats: [77.0; 2],
         },
         library,
-        plain: vec![("indexed", indexed), ("walk first", walk)],
+        plain: vec![("indexed", plain::<false>), ("walk first", plain::<true>)],
     }
 }
 
@@ -108,11 +77,12 @@ fn input(side: usize, full_scale: u64, spoil: fn(&mut Input)) -> Input {
     case
 }
 
-fn library_variance(input: &Input, output: &mut Output) {
-    let [p, q] = &mut output.whole;
+fn library(input: &Input, output: &mut Output) {
+    let [n, p, q, r] = &mut output.whole;
+    let [variance, noise] = &mut output.floats;
     // SAFETY: the pointers come from borrows, so they are aligned and nothing that is written overlaps.
     output.number = unsafe {
-        tip_pair_variance(
+        tip_pair_figures(
             input.width,
             input.height,
             input.full_scale,
@@ -123,37 +93,32 @@ fn library_variance(input: &Input, output: &mut Output) {
             input.second.as_ptr(),
             input.second.len(),
             &mut output.place,
+            n,
             p,
             q,
-            &mut output.figure,
-        )
-    };
-}
-
-fn library_noise(input: &Input, output: &mut Output) {
-    let [r, n] = &mut output.whole;
-    // SAFETY: as above.
-    output.number = unsafe {
-        tip_pair_noise(
-            input.width,
-            input.height,
-            input.full_scale,
-            input.mask.as_ptr(),
-            input.mask.len(),
-            input.first.as_ptr(),
-            input.first.len(),
-            input.second.as_ptr(),
-            input.second.len(),
-            &mut output.place,
             r,
-            n,
-            &mut output.figure,
+            variance,
+            noise,
         )
     };
 }
 
-/// n and P, or the refusal. The difference is taken at 16 bits, squared at 32 and chosen after it is computed.
-fn spread<const WALK: bool>(input: &Input) -> Result<(u64, u64), Refusal> {
+#[inline(never)]
+fn plain<const WALK: bool>(input: &Input, output: &mut Output) {
+    let (refusal, whole, floats) = match figures::<WALK>(input) {
+        Ok((whole, floats)) => (ACCEPTED, whole, floats),
+        Err(refusal) => (refusal, [0; 4], [0.0; 2]),
+    };
+    *output = Output {
+        number: refusal.0,
+        place: refusal.1,
+        whole,
+        floats,
+    };
+}
+
+/// One walk for all six numbers. The difference is taken at 16 bits, squared at 32 and chosen after it is computed.
+fn figures<const WALK: bool>(input: &Input) -> Result<([u64; 4], [f64; 2]), Refusal> {
     let lengths = [input.mask.len(), input.first.len(), input.second.len()];
     let (mask, first, second) = (&input.mask[..], &input.first[..], &input.second[..]);
     accepted(shape(
@@ -179,36 +144,9 @@ fn spread<const WALK: bool>(input: &Input) -> Result<(u64, u64), Refusal> {
         return Err((7, 0));
     }
     let d = a.abs_diff(b);
-    Ok((n, n * squares - d * d))
-}
-
-fn give(output: &mut Output, refusal: Refusal, whole: [u64; 2], figure: f64) {
-    *output = Output {
-        number: refusal.0,
-        place: refusal.1,
-        whole,
-        figure,
-    };
-}
-
-#[inline(never)]
-fn plain_variance<const WALK: bool>(input: &Input, output: &mut Output) {
-    match spread::<WALK>(input) {
-        Err(refusal) => give(output, refusal, [0; 2], 0.0),
-        Ok((n, p)) => {
-            let q = 2 * n * n;
-            give(output, ACCEPTED, [p, q], p as f64 / q as f64)
-        }
-    }
-}
-
-#[inline(never)]
-fn plain_noise<const WALK: bool>(input: &Input, output: &mut Output) {
-    match spread::<WALK>(input) {
-        Err(refusal) => give(output, refusal, [0; 2], 0.0),
-        Ok((n, p)) => {
-            let r = (2048 * p).isqrt();
-            give(output, ACCEPTED, [r, n], r as f64 / (64 * n) as f64)
-        }
-    }
+    let p = n * squares - d * d;
+    let (q, r) = (2 * n * n, (2048 * p).isqrt());
+    let variance = p as f64 / q as f64;
+    let noise = r as f64 / (64 * n) as f64;
+    Ok(([n, p, q, r], [variance, noise]))
 }
