@@ -34,14 +34,9 @@ pub const CALLS: &[Call] = &[
         round: raw::unpack_raw10,
     },
     Call {
-        name: "pair_variance",
+        name: "pair_figures",
         required: &[0, 1, 2, 4, 5, 6, 7],
-        round: pair::pair_variance,
-    },
-    Call {
-        name: "pair_noise",
-        required: &[0, 1, 2, 4, 5, 6, 7],
-        round: pair::pair_noise,
+        round: pair::pair_figures,
     },
     Call {
         name: "dark_level",

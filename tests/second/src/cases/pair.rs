@@ -1,4 +1,4 @@
-//! Cases of the pair variance and the pair noise; both run the same ones.
+//! Cases of the figures of a pair.
 
 use reference::pair;
 use reference::shared::Answer;
@@ -10,15 +10,8 @@ use super::tally::{Case, Tally};
 use super::windows;
 use crate::library::{self, Lent};
 
-#[derive(Clone, Copy, Debug, PartialEq)]
-enum Figure {
-    Variance,
-    Noise,
-}
-
 #[derive(Clone, Debug, PartialEq)]
 struct Pair {
-    figure: Figure,
     width: usize,
     height: usize,
     full_scale: u64,
@@ -30,33 +23,25 @@ struct Pair {
 
 impl Case for Pair {
     fn reference(&mut self) -> Answer {
-        let pair = pair::Pair {
+        pair::pair_figures(&pair::Pair {
             width: self.width,
             height: self.height,
             full_scale: self.full_scale,
             mask: &self.mask,
             first: &self.first,
             second: self.second.as_ref().unwrap_or(&self.first),
-        };
-        match self.figure {
-            Figure::Variance => pair::pair_variance(&pair),
-            Figure::Noise => pair::pair_noise(&pair),
-        }
+        })
     }
 
     fn library(&mut self) -> Answer {
-        let pair = library::pair::Pair {
+        library::pair::pair_figures(library::pair::Pair {
             width: self.width,
             height: self.height,
             full_scale: self.full_scale,
             mask: &mut self.mask,
             first: &mut self.first,
             second: self.second.as_mut(),
-        };
-        match self.figure {
-            Figure::Variance => library::pair::pair_variance(pair),
-            Figure::Noise => library::pair::pair_noise(pair),
-        }
+        })
     }
 }
 
@@ -66,20 +51,11 @@ impl Pair {
     }
 }
 
-pub fn pair_variance(tally: &mut Tally, dice: &mut Dice) {
-    round(Figure::Variance, tally, dice);
-}
-
-pub fn pair_noise(tally: &mut Tally, dice: &mut Dice) {
-    round(Figure::Noise, tally, dice);
-}
-
-fn of_mask(figure: Figure, shape: Shape, mask: Vec<u8>, dice: &mut Dice) -> Pair {
+fn of_mask(shape: Shape, mask: Vec<u8>, dice: &mut Dice) -> Pair {
     let full_scale = windows::full_scale(dice);
     let first = windows::frame(&mask, full_scale, dice);
     let second = windows::frame(&mask, full_scale, dice);
     Pair {
-        figure,
         width: shape.width,
         height: shape.height,
         full_scale,
@@ -89,19 +65,18 @@ fn of_mask(figure: Figure, shape: Shape, mask: Vec<u8>, dice: &mut Dice) -> Pair
     }
 }
 
-fn of_shape(figure: Figure, shape: Shape, dice: &mut Dice) -> Pair {
+fn of_shape(shape: Shape, dice: &mut Dice) -> Pair {
     let mask = windows::mask(shape.sites(), dice);
-    of_mask(figure, shape, mask, dice)
+    of_mask(shape, mask, dice)
 }
 
-fn legal(figure: Figure, dice: &mut Dice) -> Pair {
-    of_shape(figure, shapes::legal(dice), dice)
+fn legal(dice: &mut Dice) -> Pair {
+    of_shape(shapes::legal(dice), dice)
 }
 
 /// Two frames of a fully surveyed 2 x 2 window.
-fn of_four(figure: Figure, full_scale: u64, first: [u16; 4], second: [u16; 4]) -> Pair {
+fn of_four(full_scale: u64, first: [u16; 4], second: [u16; 4]) -> Pair {
     Pair {
-        figure,
         width: 2,
         height: 2,
         full_scale,
@@ -111,24 +86,24 @@ fn of_four(figure: Figure, full_scale: u64, first: [u16; 4], second: [u16; 4]) -
     }
 }
 
-fn round(figure: Figure, tally: &mut Tally, dice: &mut Dice) {
-    published(figure, tally);
-    tied_frames(figure, tally, dice);
-    full_swing(figure, tally, dice);
-    few_surveyed(figure, tally, dice);
-    scales(figure, tally, dice);
-    samples_above(figure, tally, dice);
-    codes_above(figure, tally, dice);
-    wrong_lengths(figure, tally, dice);
+pub fn pair_figures(tally: &mut Tally, dice: &mut Dice) {
+    published(tally);
+    tied_frames(tally, dice);
+    full_swing(tally, dice);
+    few_surveyed(tally, dice);
+    scales(tally, dice);
+    samples_above(tally, dice);
+    codes_above(tally, dice);
+    wrong_lengths(tally, dice);
     for shape in shapes::illegal() {
-        tally.run(of_shape(figure, shape, dice));
+        tally.run(of_shape(shape, dice));
     }
-    spoil::every_set(tally, dice, |dice| legal(figure, dice), SPOILERS);
+    spoil::every_set(tally, dice, legal, SPOILERS);
     for _ in 0..60 {
-        tally.run(legal(figure, dice));
+        tally.run(legal(dice));
     }
     for &shape in shapes::GREAT {
-        tally.run(of_shape(figure, shape, dice));
+        tally.run(of_shape(shape, dice));
     }
 }
 
@@ -154,16 +129,16 @@ const SPOILERS: &[spoil::Spoiler<Pair>] = &[
 ];
 
 /// K1 and K2.
-fn published(figure: Figure, tally: &mut Tally) {
+fn published(tally: &mut Tally) {
     let first = [100, 101, 102, 103];
-    tally.run(of_four(figure, 1023, first, [101, 101, 102, 104]));
-    tally.run(of_four(figure, 1023, first, first.map(|sample| sample + 7)));
+    tally.run(of_four(1023, first, [101, 101, 102, 104]));
+    tally.run(of_four(1023, first, first.map(|sample| sample + 7)));
 }
 
 /// A lamp drift, equal frames, and one buffer given twice.
-fn tied_frames(figure: Figure, tally: &mut Tally, dice: &mut Dice) {
+fn tied_frames(tally: &mut Tally, dice: &mut Dice) {
     for _ in 0..8 {
-        let mut drift = legal(figure, dice);
+        let mut drift = legal(dice);
         drift.full_scale = 4095;
         for site in 0..drift.mask.len() {
             drift.first[site] = dice.between(0, 4088) as u16;
@@ -181,10 +156,10 @@ fn tied_frames(figure: Figure, tally: &mut Tally, dice: &mut Dice) {
 
 /// The greatest differences, from one-sided (P 0) to balanced: 128 x 128 in turns of 2 has the
 /// greatest P of all windows, (16,384 x 4,095)^2.
-fn full_swing(figure: Figure, tally: &mut Tally, dice: &mut Dice) {
+fn full_swing(tally: &mut Tally, dice: &mut Dice) {
     for shape in [shapes::GREAT[0], shapes::legal(dice)] {
         for turns in [1, 2, 3, 64] {
-            let mut swing = of_mask(figure, shape, vec![0; shape.sites()], dice);
+            let mut swing = of_mask(shape, vec![0; shape.sites()], dice);
             swing.full_scale = 4095;
             for site in 0..shape.sites() {
                 let up = site % turns == 0;
@@ -196,7 +171,7 @@ fn full_swing(figure: Figure, tally: &mut Tally, dice: &mut Dice) {
     }
 }
 
-fn few_surveyed(figure: Figure, tally: &mut Tally, dice: &mut Dice) {
+fn few_surveyed(tally: &mut Tally, dice: &mut Dice) {
     for count in 0..4 {
         for shape in [
             Shape {
@@ -207,23 +182,23 @@ fn few_surveyed(figure: Figure, tally: &mut Tally, dice: &mut Dice) {
             shapes::GREAT[0],
         ] {
             let mask = windows::mask_surveying(count, shape.sites(), dice);
-            tally.run(of_mask(figure, shape, mask, dice));
+            tally.run(of_mask(shape, mask, dice));
         }
     }
 }
 
 /// Each full scale, with samples at most 1 and with random ones.
-fn scales(figure: Figure, tally: &mut Tally, dice: &mut Dice) {
+fn scales(tally: &mut Tally, dice: &mut Dice) {
     for &full_scale in windows::FULL_SCALES {
-        tally.run(of_four(figure, full_scale, [0, 1, 0, 1], [1, 1, 0, 0]));
-        let mut case = legal(figure, dice);
+        tally.run(of_four(full_scale, [0, 1, 0, 1], [1, 1, 0, 0]));
+        let mut case = legal(dice);
         case.full_scale = full_scale;
         tally.run(case);
     }
 }
 
 /// Full scale and one above it at each pair of places, at surveyed sites and in gaps.
-fn samples_above(figure: Figure, tally: &mut Tally, dice: &mut Dice) {
+fn samples_above(tally: &mut Tally, dice: &mut Dice) {
     for full_scale in [1u16, 10, 1023, 4095] {
         for excess in [0, 1] {
             for in_first in 0..5 {
@@ -233,7 +208,6 @@ fn samples_above(figure: Figure, tally: &mut Tally, dice: &mut Dice) {
                     second[in_second] = full_scale + excess;
                     // The fifth place stands for no such sample in that frame.
                     let case = of_four(
-                        figure,
                         full_scale.into(),
                         [first[0], first[1], first[2], first[3]],
                         [second[0], second[1], second[2], second[3]],
@@ -249,10 +223,10 @@ fn samples_above(figure: Figure, tally: &mut Tally, dice: &mut Dice) {
 }
 
 /// Every code at every site, with a sample above full scale before, at or after it.
-fn codes_above(figure: Figure, tally: &mut Tally, dice: &mut Dice) {
+fn codes_above(tally: &mut Tally, dice: &mut Dice) {
     for code in [0, 1, 2, 3, 4, 5, 127, 128, 254, 255] {
         for site in 0..4 {
-            let mut case = of_four(figure, 1023, [0, 1, 2, 3], [3, 2, 1, 0]);
+            let mut case = of_four(1023, [0, 1, 2, 3], [3, 2, 1, 0]);
             case.mask[site] = code;
             tally.run(case.clone());
             case.second()[dice.below(4)] = 1024;
@@ -261,7 +235,7 @@ fn codes_above(figure: Figure, tally: &mut Tally, dice: &mut Dice) {
     }
 }
 
-fn wrong_lengths(figure: Figure, tally: &mut Tally, dice: &mut Dice) {
+fn wrong_lengths(tally: &mut Tally, dice: &mut Dice) {
     for shape in [
         Shape {
             width: 2,
@@ -271,7 +245,7 @@ fn wrong_lengths(figure: Figure, tally: &mut Tally, dice: &mut Dice) {
         shapes::GREAT[0],
     ] {
         for length in spoil::wrong_lengths(shape.sites()) {
-            let case = of_shape(figure, shape, dice);
+            let case = of_shape(shape, dice);
             let (mut mask, mut first, mut second) = (case.clone(), case.clone(), case);
             mask.mask.resize(length, 0);
             first.first.resize(length, 0);

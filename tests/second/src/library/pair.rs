@@ -3,7 +3,7 @@ use reference::shared::Answer;
 use super::{Lent, GARBAGE};
 
 extern "C" {
-    fn tip_pair_variance(
+    fn tip_pair_figures(
         width: usize,
         height: usize,
         full_scale: u64,
@@ -14,29 +14,16 @@ extern "C" {
         second: *const u16,
         second_len: usize,
         place: *mut u64,
+        n: *mut u64,
         p: *mut u64,
         q: *mut u64,
-        variance: *mut f64,
-    ) -> u64;
-
-    fn tip_pair_noise(
-        width: usize,
-        height: usize,
-        full_scale: u64,
-        mask: *const u8,
-        mask_len: usize,
-        first: *const u16,
-        first_len: usize,
-        second: *const u16,
-        second_len: usize,
-        place: *mut u64,
         r: *mut u64,
-        n: *mut u64,
+        variance: *mut f64,
         noise: *mut f64,
     ) -> u64;
 }
 
-/// What both calls are lent; without a second frame, the first is lent twice.
+/// What the call is lent; without a second frame, the first is lent twice.
 pub struct Pair<'a> {
     pub width: usize,
     pub height: usize,
@@ -56,13 +43,14 @@ impl Pair<'_> {
     }
 }
 
-pub fn pair_variance(mut pair: Pair) -> Answer {
-    let (mut place, mut p, mut q) = (GARBAGE, GARBAGE, GARBAGE);
-    let mut variance = f64::from_bits(GARBAGE);
+pub fn pair_figures(mut pair: Pair) -> Answer {
+    let mut place = GARBAGE;
+    let (mut n, mut p, mut q, mut r) = (GARBAGE, GARBAGE, GARBAGE, GARBAGE);
+    let (mut variance, mut noise) = (f64::from_bits(GARBAGE), f64::from_bits(GARBAGE));
     let (second, second_len) = pair.second_slice();
     // SAFETY: each buffer is lent with its own length, and only the cells are written.
     let number = unsafe {
-        tip_pair_variance(
+        tip_pair_figures(
             pair.width,
             pair.height,
             pair.full_scale,
@@ -73,42 +61,22 @@ pub fn pair_variance(mut pair: Pair) -> Answer {
             second,
             second_len,
             &mut place,
+            &mut n,
             &mut p,
             &mut q,
-            &mut variance,
-        )
-    };
-    let figures = vec![p.into(), q.into(), variance.to_bits().into()];
-    Answer {
-        number,
-        place,
-        figures,
-    }
-}
-
-pub fn pair_noise(mut pair: Pair) -> Answer {
-    let (mut place, mut r, mut n) = (GARBAGE, GARBAGE, GARBAGE);
-    let mut noise = f64::from_bits(GARBAGE);
-    let (second, second_len) = pair.second_slice();
-    // SAFETY: each buffer is lent with its own length, and only the cells are written.
-    let number = unsafe {
-        tip_pair_noise(
-            pair.width,
-            pair.height,
-            pair.full_scale,
-            pair.mask.address(),
-            pair.mask.len(),
-            pair.first.address(),
-            pair.first.len(),
-            second,
-            second_len,
-            &mut place,
             &mut r,
-            &mut n,
+            &mut variance,
             &mut noise,
         )
     };
-    let figures = vec![r.into(), n.into(), noise.to_bits().into()];
+    let figures = vec![
+        n.into(),
+        p.into(),
+        q.into(),
+        r.into(),
+        variance.to_bits().into(),
+        noise.to_bits().into(),
+    ];
     Answer {
         number,
         place,

@@ -1,7 +1,7 @@
 //! The job: one stream of fields, judged as it is read.
 
 use crate::dark::dark_level;
-use crate::pair::{pair_noise, pair_variance, Pair};
+use crate::pair::{pair_figures, Pair};
 use crate::raw::unpack_raw10;
 use crate::shared::{refuse_if, settle, sites_of, Answer, Outcome, Refusal, Window};
 
@@ -85,16 +85,14 @@ fn run(input: &[u8]) -> Outcome {
             place: stream.offset as u64,
         });
     }
-    let pair = Pair {
+    let pair = accepted(pair_figures(&Pair {
         width,
         height,
         full_scale,
         mask,
         first: &first,
         second: &second,
-    };
-    let noise = accepted(pair_noise(&pair))?;
-    let variance = accepted(pair_variance(&pair))?;
+    }))?;
     let window = Window {
         width,
         height,
@@ -103,7 +101,10 @@ fn run(input: &[u8]) -> Outcome {
         frame: &first,
     };
     let dark = accepted(dark_level(window, black_level))?;
-    Ok(vec![noise[1], variance[0], variance[1], noise[0], dark[0]])
+    let [n, p, q, r, _, _] = pair[..] else {
+        unreachable!("a pair has six figures");
+    };
+    Ok(vec![n, p, q, r, dark[0]])
 }
 
 fn unpacked(width: usize, height: usize, bytes: &[u8]) -> Vec<u16> {

@@ -6,7 +6,7 @@ use crate::shared::{
     surveyed, Answer, Outcome, Refusal,
 };
 
-/// What both calls are lent.
+/// What the call is lent.
 pub struct Pair<'a> {
     pub width: usize,
     pub height: usize,
@@ -16,27 +16,18 @@ pub struct Pair<'a> {
     pub second: &'a [u16],
 }
 
-/// P, Q and the bits of P/Q.
-pub fn pair_variance(pair: &Pair) -> Answer {
-    settle(variance(pair), 3)
+/// n, P, Q, r, and the bits of P/Q and of r / (64 n).
+pub fn pair_figures(pair: &Pair) -> Answer {
+    settle(figures(pair), 6)
 }
 
-/// r, n and the bits of r / (64 n).
-pub fn pair_noise(pair: &Pair) -> Answer {
-    settle(noise(pair), 3)
-}
-
-fn variance(pair: &Pair) -> Outcome {
+fn figures(pair: &Pair) -> Outcome {
     let (n, p) = survey(pair)?;
     let q = 2 * n * n;
-    Ok(vec![p, q, rounded_quotient(p as u128, q as u128).into()])
-}
-
-fn noise(pair: &Pair) -> Outcome {
-    let (n, p) = survey(pair)?;
     let r = root(2048 * p);
-    let figure = rounded_quotient(r as u128, 64 * n as u128);
-    Ok(vec![r, n, figure.into()])
+    let variance = rounded_quotient(p as u128, q as u128);
+    let noise = rounded_quotient(r as u128, 64 * n as u128);
+    Ok(vec![n, p, q, r, variance.into(), noise.into()])
 }
 
 /// The count of surveyed sites and P, after all refusals.
@@ -98,15 +89,17 @@ mod tests {
     #[test]
     fn k1() {
         let pair = of_frames(&[100, 101, 102, 103], &[101, 101, 102, 104]);
-        assert_eq!(pair_variance(&pair).figures, [4, 32, bits(4.0, 32.0)]);
-        assert_eq!(pair_noise(&pair).figures, [90, 4, bits(90.0, 256.0)]);
+        let floats = [bits(4.0, 32.0), bits(90.0, 256.0)];
+        assert_eq!(
+            pair_figures(&pair).figures,
+            [4, 4, 32, 90, floats[0], floats[1]]
+        );
     }
 
     #[test]
     fn k2_a_lamp_drift_is_no_noise() {
         let pair = of_frames(&[100, 101, 102, 103], &[107, 108, 109, 110]);
-        assert_eq!(pair_variance(&pair).figures, [0, 32, 0]);
-        assert_eq!(pair_noise(&pair).figures, [0, 4, 0]);
+        assert_eq!(pair_figures(&pair).figures, [4, 0, 32, 0, 0, 0]);
     }
 
     #[test]
@@ -116,19 +109,22 @@ mod tests {
         let refused = Answer {
             number: 6,
             place: 3,
-            figures: vec![0; 3],
+            figures: vec![0; 6],
         };
-        assert_eq!(pair_variance(&pair), refused);
-        assert_eq!(pair_noise(&pair), refused);
+        assert_eq!(pair_figures(&pair), refused);
     }
 
     #[test]
     fn two_surveyed_sites_are_enough() {
         let mut pair = of_frames(&[0, 3, 65535, 65535], &[1, 2, 65535, 0]);
         pair.mask = &[0, 0, 1, 2];
-        assert_eq!(pair_variance(&pair).figures, [4, 8, bits(4.0, 8.0)]);
+        let floats = [bits(4.0, 8.0), bits(90.0, 128.0)];
+        assert_eq!(
+            pair_figures(&pair).figures,
+            [2, 4, 8, 90, floats[0], floats[1]]
+        );
         pair.mask = &[0, 3, 1, 2];
-        assert_eq!(pair_variance(&pair).number, 7);
+        assert_eq!(pair_figures(&pair).number, 7);
     }
 
     #[test]
@@ -157,7 +153,7 @@ mod tests {
         let bound = (16384 * 4095i128).pow(2);
         assert_eq!(bound, 4_501_400_872_550_400);
         assert!(bound < 1 << 53);
-        assert_eq!(pair_variance(&pair).figures[0], bound);
-        assert_eq!(pair_noise(&pair).figures[0], 3_036_259_044);
+        assert_eq!(pair_figures(&pair).figures[1], bound);
+        assert_eq!(pair_figures(&pair).figures[3], 3_036_259_044);
     }
 }
