@@ -71,6 +71,7 @@ pub fn root(square: i128) -> i128 {
 mod tests {
     use super::*;
 
+    /// A fully surveyed 2 x 2 window.
     fn of_frames<'a>(first: &'a [u16], second: &'a [u16]) -> Pair<'a> {
         Pair {
             width: 2,
@@ -82,49 +83,141 @@ mod tests {
         }
     }
 
-    fn bits(numerator: f64, denominator: f64) -> i128 {
-        (numerator / denominator).to_bits().into()
+    /// The greatest window, at the greatest full scale.
+    fn of_greatest<'a>(mask: &'a [u8], first: &'a [u16], second: &'a [u16]) -> Pair<'a> {
+        Pair {
+            width: 128,
+            height: 128,
+            full_scale: 4095,
+            mask,
+            first,
+            second,
+        }
     }
 
+    fn accepted(whole: [i128; 4], floats: [f64; 2]) -> Answer {
+        let mut figures = whole.to_vec();
+        figures.extend(floats.map(|float| i128::from(float.to_bits())));
+        Answer {
+            number: 0,
+            place: 0,
+            figures,
+        }
+    }
+
+    fn refused(number: u64, place: u64) -> Answer {
+        Answer {
+            number,
+            place,
+            figures: vec![0; 6],
+        }
+    }
+
+    /// Tells variance and noise exchanged, and n in r's place.
     #[test]
     fn k1() {
         let pair = of_frames(&[100, 101, 102, 103], &[101, 101, 102, 104]);
-        let floats = [bits(4.0, 32.0), bits(90.0, 256.0)];
         assert_eq!(
-            pair_figures(&pair).figures,
-            [4, 4, 32, 90, floats[0], floats[1]]
+            pair_figures(&pair),
+            accepted([4, 4, 32, 90], [0.125, 90.0 / 256.0])
         );
     }
 
+    /// Tells the plain sum of d^2, by which the drift would be noise: P 784.
     #[test]
     fn k2_a_lamp_drift_is_no_noise() {
         let pair = of_frames(&[100, 101, 102, 103], &[107, 108, 109, 110]);
-        assert_eq!(pair_figures(&pair).figures, [4, 0, 32, 0, 0, 0]);
+        assert_eq!(pair_figures(&pair), accepted([4, 0, 32, 0], [0.0, 0.0]));
     }
 
+    /// Tells Q = n x n, which is 49, and a gap that counts, which makes n 8.
+    #[test]
+    fn seven_sites_and_a_gap() {
+        let pair = Pair {
+            width: 4,
+            height: 2,
+            full_scale: 1023,
+            mask: &[0, 0, 0, 0, 0, 1, 0, 0],
+            first: &[100, 101, 102, 103, 100, 0, 102, 103],
+            second: &[101, 101, 102, 104, 100, 1023, 103, 103],
+        };
+        assert_eq!(
+            pair_figures(&pair),
+            accepted([7, 12, 98, 156], [12.0 / 98.0, 156.0 / 448.0])
+        );
+    }
+
+    /// Tells r of 2047 x P, which is 63, as is a root whose square stays below 2048 x P.
+    #[test]
+    fn a_whole_root() {
+        let mut pair = of_frames(&[5, 5, 5, 5], &[6, 5, 5, 5]);
+        pair.mask = &[0, 0, 0, 1];
+        assert_eq!(
+            pair_figures(&pair),
+            accepted([3, 2, 18, 64], [1.0 / 9.0, 1.0 / 3.0])
+        );
+        assert_eq!(root(2047 * 2), 63);
+    }
+
+    /// Tells the second frame judged before the first, and both judged site by site: place 0.
     #[test]
     fn the_first_frame_is_judged_before_the_second() {
         let mut pair = of_frames(&[0, 0, 0, 11], &[11, 0, 0, 0]);
         pair.full_scale = 10;
-        let refused = Answer {
-            number: 6,
-            place: 3,
-            figures: vec![0; 6],
-        };
-        assert_eq!(pair_figures(&pair), refused);
+        assert_eq!(pair_figures(&pair), refused(6, 3));
     }
 
+    /// Tells a refusal that leaves figures, here K1's.
     #[test]
-    fn two_surveyed_sites_are_enough() {
+    fn a_refusal_has_six_zeros() {
+        let mut pair = of_frames(&[100, 101, 102, 103], &[101, 101, 102, 104]);
+        pair.full_scale = 103;
+        assert_eq!(pair_figures(&pair), refused(6, 3));
+    }
+
+    /// Tells one surveyed site measured (n 1, P 0, Q 2, r 0), and two refused.
+    #[test]
+    fn two_surveyed_sites_are_enough_and_one_is_not() {
         let mut pair = of_frames(&[0, 3, 65535, 65535], &[1, 2, 65535, 0]);
         pair.mask = &[0, 0, 1, 2];
-        let floats = [bits(4.0, 8.0), bits(90.0, 128.0)];
         assert_eq!(
-            pair_figures(&pair).figures,
-            [2, 4, 8, 90, floats[0], floats[1]]
+            pair_figures(&pair),
+            accepted([2, 4, 8, 90], [0.5, 90.0 / 128.0])
         );
         pair.mask = &[0, 3, 1, 2];
-        assert_eq!(pair_figures(&pair).number, 7);
+        assert_eq!(pair_figures(&pair), refused(7, 0));
+    }
+
+    /// Tells refusals in another order: all apply at first, and each turn mends the one given.
+    #[test]
+    fn refusals_in_their_order() {
+        let mut pair = Pair {
+            width: 3,
+            height: 2,
+            full_scale: 0,
+            mask: &[1, 0, 4],
+            first: &[11; 3],
+            second: &[11; 5],
+        };
+        assert_eq!(pair_figures(&pair), refused(1, 0));
+        pair.width = 2;
+        assert_eq!(pair_figures(&pair), refused(2, 0));
+        pair.full_scale = 10;
+        assert_eq!(pair_figures(&pair), refused(4, 0));
+        pair.mask = &[1, 0, 4, 1];
+        assert_eq!(pair_figures(&pair), refused(4, 0));
+        pair.first = &[11; 4];
+        assert_eq!(pair_figures(&pair), refused(4, 0));
+        pair.second = &[11; 4];
+        assert_eq!(pair_figures(&pair), refused(5, 2));
+        pair.mask = &[1, 0, 3, 1];
+        assert_eq!(pair_figures(&pair), refused(6, 1));
+        pair.first = &[10; 4];
+        assert_eq!(pair_figures(&pair), refused(6, 1));
+        pair.second = &[10; 4];
+        assert_eq!(pair_figures(&pair), refused(7, 0));
+        pair.mask = &[1, 0, 0, 1];
+        assert_eq!(pair_figures(&pair), accepted([2, 0, 8, 0], [0.0, 0.0]));
     }
 
     #[test]
@@ -135,25 +228,43 @@ mod tests {
         }
     }
 
+    /// Tells the root of a float, which is one more: 2048 x P is 1 short of its square.
+    #[test]
+    fn one_short_of_a_whole_root() {
+        let mut mask = [1; 16384];
+        mask[..8805].fill(0);
+        let mut first = [0; 16384];
+        first[..4747].fill(4095);
+        let second = first.map(|sample| 4095 - sample);
+        let pair = of_greatest(&mask, &first, &second);
+        let (p, r) = (4747 * 4058 * 8190i128.pow(2), 1_626_726_400);
+        assert_eq!(2048 * p, (r + 1) * (r + 1) - 1);
+        assert_eq!((2048.0 * p as f64).sqrt(), (r + 1) as f64);
+        assert_eq!(
+            pair_figures(&pair),
+            accepted(
+                [8805, p, 155_056_050, r],
+                [p as f64 / 155_056_050.0, r as f64 / 563_520.0]
+            )
+        );
+    }
+
     /// P is at most (n x full scale)^2, and this window meets that bound. It is below 2^53, so
     /// every P is an exact float.
     #[test]
     fn the_greatest_p() {
         let first: Vec<u16> = (0..16384).map(|site| site % 2 * 4095).collect();
         let second: Vec<u16> = first.iter().map(|sample| 4095 - sample).collect();
-        let mask = vec![0; 16384];
-        let pair = Pair {
-            width: 128,
-            height: 128,
-            full_scale: 4095,
-            mask: &mask,
-            first: &first,
-            second: &second,
-        };
+        let pair = of_greatest(&[0; 16384], &first, &second);
         let bound = (16384 * 4095i128).pow(2);
         assert_eq!(bound, 4_501_400_872_550_400);
         assert!(bound < 1 << 53);
-        assert_eq!(pair_figures(&pair).figures[1], bound);
-        assert_eq!(pair_figures(&pair).figures[3], 3_036_259_044);
+        assert_eq!(
+            pair_figures(&pair),
+            accepted(
+                [16_384, bound, 536_870_912, 3_036_259_044],
+                [8_384_512.5, 3_036_259_044.0 / 1_048_576.0]
+            )
+        );
     }
 }
