@@ -45,6 +45,11 @@ impl Case for Pair {
     }
 }
 
+const LEAST: Shape = Shape {
+    width: 2,
+    height: 2,
+};
+
 impl Pair {
     fn second(&mut self) -> &mut Lent<u16> {
         self.second.as_mut().expect("a second frame of its own")
@@ -88,22 +93,25 @@ fn of_four(full_scale: u64, first: [u16; 4], second: [u16; 4]) -> Pair {
 
 pub fn pair_figures(tally: &mut Tally, dice: &mut Dice) {
     published(tally);
+    small_differences(tally, dice);
     tied_frames(tally, dice);
     full_swing(tally, dice);
+    roots(tally, dice);
     few_surveyed(tally, dice);
     scales(tally, dice);
     samples_above(tally, dice);
+    both_frames_above(tally, dice);
     codes_above(tally, dice);
     wrong_lengths(tally, dice);
-    for shape in shapes::illegal() {
-        tally.run(of_shape(shape, dice));
+    wrong_sides(tally, dice);
+    for _ in 0..2 {
+        spoil::every_set(tally, dice, legal, SPOILERS);
+        for &shape in shapes::GREAT {
+            tally.run(of_shape(shape, dice));
+        }
     }
-    spoil::every_set(tally, dice, legal, SPOILERS);
-    for _ in 0..60 {
+    for _ in 0..160 {
         tally.run(legal(dice));
-    }
-    for &shape in shapes::GREAT {
-        tally.run(of_shape(shape, dice));
     }
 }
 
@@ -135,9 +143,22 @@ fn published(tally: &mut Tally) {
     tally.run(of_four(1023, first, first.map(|sample| sample + 7)));
 }
 
+/// Every difference from -2 to 2 at each of four sites. P runs from 0 to 64 and is often one more
+/// than in another case, as 4 and 3, 12 and 11.
+fn small_differences(tally: &mut Tally, dice: &mut Dice) {
+    for set in 0..625 {
+        let first = [0; 4].map(|_| dice.between(2, 1021) as u16);
+        let mut second = first;
+        for (sample, place) in second.iter_mut().zip([1, 5, 25, 125]) {
+            *sample = *sample + set / place % 5 - 2;
+        }
+        tally.run(of_four(1023, first, second));
+    }
+}
+
 /// A lamp drift, equal frames, and one buffer given twice.
 fn tied_frames(tally: &mut Tally, dice: &mut Dice) {
-    for _ in 0..8 {
+    for _ in 0..16 {
         let mut drift = legal(dice);
         drift.full_scale = 4095;
         for site in 0..drift.mask.len() {
@@ -155,9 +176,10 @@ fn tied_frames(tally: &mut Tally, dice: &mut Dice) {
 }
 
 /// The greatest differences, from one-sided (P 0) to balanced: 128 x 128 in turns of 2 has the
-/// greatest P of all windows, (16,384 x 4,095)^2.
+/// greatest P of all windows, (16,384 x 4,095)^2. Each also with one sample a grey level off.
 fn full_swing(tally: &mut Tally, dice: &mut Dice) {
-    for shape in [shapes::GREAT[0], shapes::legal(dice)] {
+    let any = [shapes::legal(dice), shapes::legal(dice)];
+    for &shape in shapes::GREAT.iter().chain(&any) {
         for turns in [1, 2, 3, 64] {
             let mut swing = of_mask(shape, vec![0; shape.sites()], dice);
             swing.full_scale = 4095;
@@ -166,21 +188,58 @@ fn full_swing(tally: &mut Tally, dice: &mut Dice) {
                 swing.first[site] = if up { 0 } else { 4095 };
                 swing.second()[site] = if up { 4095 } else { 0 };
             }
+            tally.run(swing.clone());
+            let site = dice.below(shape.sites());
+            swing.first[site] = swing.first[site].abs_diff(1);
             tally.run(swing);
         }
     }
 }
 
+/// 2048 x P is (64 x full scale)^2 x 2 x rising x falling: a square, a site off one, and near one.
+fn roots(tally: &mut Tally, dice: &mut Dice) {
+    for (rising, falling) in [
+        (1, 2),
+        (2, 1),
+        (2, 2),
+        (9, 8),
+        (5461, 10_922),
+        (10_922, 5461),
+        (10_922, 5460),
+        (10_921, 5461),
+        (10_922, 5462),
+        // At full scale 4095 these two are 1 short of a square, and the root of a float is not.
+        (4747, 4058),
+        (9494, 2029),
+    ] {
+        for full_scale in [1, dice.between(2, 4094) as u16, 4095] {
+            tally.run(rising_and_falling(rising, falling, full_scale, dice));
+        }
+    }
+}
+
+/// So many sites that rise from 0 to full scale, so many that fall, and gaps.
+fn rising_and_falling(rising: usize, falling: usize, full_scale: u16, dice: &mut Dice) -> Pair {
+    let shape = shapes::GREAT[0];
+    let mask = windows::mask_surveying(rising + falling, shape.sites(), dice);
+    let mut case = of_mask(shape, mask, dice);
+    case.full_scale = full_scale.into();
+    let mut left = rising;
+    for site in 0..shape.sites() {
+        if case.mask[site] == 0 {
+            let rises = left > 0;
+            left -= usize::from(rises);
+            case.first[site] = if rises { 0 } else { full_scale };
+            case.second()[site] = if rises { full_scale } else { 0 };
+        }
+    }
+    case
+}
+
 fn few_surveyed(tally: &mut Tally, dice: &mut Dice) {
     for count in 0..4 {
-        for shape in [
-            Shape {
-                width: 2,
-                height: 2,
-            },
-            shapes::legal(dice),
-            shapes::GREAT[0],
-        ] {
+        let small = [LEAST, shapes::legal(dice), shapes::legal(dice)];
+        for &shape in small.iter().chain(shapes::GREAT) {
             let mask = windows::mask_surveying(count, shape.sites(), dice);
             tally.run(of_mask(shape, mask, dice));
         }
@@ -191,13 +250,15 @@ fn few_surveyed(tally: &mut Tally, dice: &mut Dice) {
 fn scales(tally: &mut Tally, dice: &mut Dice) {
     for &full_scale in windows::FULL_SCALES {
         tally.run(of_four(full_scale, [0, 1, 0, 1], [1, 1, 0, 0]));
-        let mut case = legal(dice);
-        case.full_scale = full_scale;
-        tally.run(case);
+        for _ in 0..2 {
+            let mut case = legal(dice);
+            case.full_scale = full_scale;
+            tally.run(case);
+        }
     }
 }
 
-/// Full scale and one above it at each pair of places, at surveyed sites and in gaps.
+/// Full scale and one above it at each pair of places, at surveyed sites and with each site a gap.
 fn samples_above(tally: &mut Tally, dice: &mut Dice) {
     for full_scale in [1u16, 10, 1023, 4095] {
         for excess in [0, 1] {
@@ -213,12 +274,34 @@ fn samples_above(tally: &mut Tally, dice: &mut Dice) {
                         [second[0], second[1], second[2], second[3]],
                     );
                     tally.run(case.clone());
-                    let mut gap = case;
-                    gap.mask[dice.below(4)] = dice.between(1, 3) as u8;
-                    tally.run(gap);
+                    for site in 0..4 {
+                        let mut gap = case.clone();
+                        gap.mask[site] = dice.between(1, 3) as u8;
+                        tally.run(gap);
+                    }
                 }
             }
         }
+    }
+}
+
+/// A sample above full scale in each frame, the second frame's at the earlier site or at the same.
+/// The first frame's is the place; with the frames exchanged the other one is.
+fn both_frames_above(tally: &mut Tally, dice: &mut Dice) {
+    for turn in 0..45 {
+        let shape = match shapes::GREAT.get(turn) {
+            Some(&great) => great,
+            None => shapes::legal(dice),
+        };
+        let mut case = of_mask(shape, vec![0; shape.sites()], dice);
+        let (one, other) = (dice.below(shape.sites()), dice.below(shape.sites()));
+        case.first[one.max(other)] = spoil::above(case.full_scale, dice);
+        case.second()[one.min(other)] = spoil::above(case.full_scale, dice);
+        tally.run(case.clone());
+        let first = case.first.to_vec();
+        case.first = Lent::new("first", case.second().to_vec());
+        case.second = Some(Lent::new("second", first));
+        tally.run(case);
     }
 }
 
@@ -229,30 +312,42 @@ fn codes_above(tally: &mut Tally, dice: &mut Dice) {
             let mut case = of_four(1023, [0, 1, 2, 3], [3, 2, 1, 0]);
             case.mask[site] = code;
             tally.run(case.clone());
+            let mut above = case.clone();
+            above.first[dice.below(4)] = 1024;
+            tally.run(above);
             case.second()[dice.below(4)] = 1024;
             tally.run(case);
         }
     }
 }
 
+/// Each buffer alone, and all three alike.
 fn wrong_lengths(tally: &mut Tally, dice: &mut Dice) {
-    for shape in [
-        Shape {
-            width: 2,
-            height: 2,
-        },
-        shapes::legal(dice),
-        shapes::GREAT[0],
-    ] {
+    let small = [LEAST, shapes::legal(dice), shapes::legal(dice)];
+    for &shape in small.iter().chain(&shapes::GREAT[..2]) {
         for length in spoil::wrong_lengths(shape.sites()) {
             let case = of_shape(shape, dice);
-            let (mut mask, mut first, mut second) = (case.clone(), case.clone(), case);
+            let (mut mask, mut first, mut second) = (case.clone(), case.clone(), case.clone());
+            let mut all = case;
             mask.mask.resize(length, 0);
             first.first.resize(length, 0);
             second.second().resize(length, 0);
-            for case in [mask, first, second] {
+            all.mask.resize(length, 0);
+            all.first.resize(length, 0);
+            all.second().resize(length, 0);
+            for case in [mask, first, second, all] {
                 tally.run(case);
             }
         }
+    }
+}
+
+/// Alone, and with a wrong full scale.
+fn wrong_sides(tally: &mut Tally, dice: &mut Dice) {
+    for shape in shapes::illegal() {
+        let mut case = of_shape(shape, dice);
+        tally.run(case.clone());
+        case.full_scale = spoil::full_scale(dice);
+        tally.run(case);
     }
 }
