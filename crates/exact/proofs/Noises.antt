@@ -1,12 +1,14 @@
 -- Demand 3's bounds, over P and n. The noise is near because r is at most 1 below the root of 2048P, and one rounding moves r / 64n
 -- by far less than another 1 / 64n.
 use Prim.Native.Nat.{ℕ, _+_, _-_, _*_, _^_, _≤_, _<_}
+use mathlib.Core.Logic.{⊎-elim}
 use mathlib.Core.Path.{_≡_, ap, _∙_}
 use native.Mathlib.Nat.{le-of-lt, mul-comm, mul-assoc, mul-mul-mul-comm, mul-le-mul, mul-le-mul-right, mul-pos, add-mul}
 use native.Mathlib.Omega.{arith}
 use lib.Dec.{T}
 use lib.Ieee.{Float, le}
 use lib.Ieee.Positive.{num, den}
+use Rattle.laws.proofs.Cases.{lt-or-ge}
 use Rattle.laws.proofs.Squares.{square-twice}
 use Rattle.exact.specs.Root.{root, IsRoot}
 use Rattle.exact.specs.Quotient.{quotient, floatZero}
@@ -80,3 +82,21 @@ noise-mono P P′ n h k =
     let some : 0 < 64 * n = omega arith in
     quotient-mono (root (2048 * P)) (64 * n) (root (2048 * P′)) (64 * n) some some
     (mul-le-mul-right (64 * n) (root-mono (2048 * P) (2048 * P′) (omega arith)))
+
+-- where P is at most m², r is at most 45.2608 × m, since 45.2608² is above 2048
+pub root-most : (P m : ℕ) → P ≤ m * m → 10000 * root (2048 * P) ≤ 452608 * m
+root-most P m h = ⊎-elim (λ l. absurd (above l)) (λ g. g) (lt-or-ge (452608 * m) (10000 * root (2048 * P)))
+  where
+    above : 452608 * m < 10000 * root (2048 * P) → ⊥
+    above l =
+        let r = root (2048 * P) in
+        let some : 0 < r = omega arith in
+        omega (
+          arith,
+          h,
+          mul-pos some some,
+          root-is (2048 * P) .low,
+          mul-le-mul (le-of-lt l) (le-of-lt l),
+          mul-mul-mul-comm 452608 m 452608 m,
+          mul-mul-mul-comm 10000 r 10000 r,
+        )

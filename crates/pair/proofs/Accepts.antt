@@ -63,10 +63,10 @@ spread-most w h full mask first second r =
     (λ i l. omega (arith, r .of-first .range i l, r .of-second .range i l)) in
     omega (arith, spread-is mask first second (sitesOf w h), most)
 
--- so it stays below 2^53: there are at most 16,384 sites, and full scale is at most 4,095
-spread-exact : (w h full : ℕ) (mask first second : List ℕ) → Readable w h full mask first second → pairSpread w h mask first second .p < 2 ^ 53
+-- so it stays far below 2^53: there are at most 16,384 sites, and full scale is at most 4,095
+pub spread-greatest : (w h full : ℕ) (mask first second : List ℕ) → Readable w h full mask first second → pairSpread w h mask first second .p ≤ 4501400872550400
 unfolding spreadOf
-spread-exact w h full mask first second r =
+spread-greatest w h full mask first second r =
     let n = pairSpread w h mask first second .n in
     let side : n * full ≤ 16384 * 4095 = times-le n full 16384 4095 (surveyed-most w h mask) (scale full (r .of-first .of .scaled) .high) in
     omega (arith, spread-most w h full mask first second r, times-le (n * full) (n * full) (16384 * 4095) (16384 * 4095) side side)
@@ -88,7 +88,7 @@ module _ {w h full : ℕ} {mask first second : List ℕ} where
         frames = frames;
         two = ltb-false _ 2 (unless 7 0 _ (both .1));
         few = surveyed-most w h mask;
-        exact = spread-exact w h full mask first second frames;
+        exact = omega (arith, spread-greatest w h full mask first second frames);
       }
 
   -- so both floats are near

@@ -2,9 +2,10 @@
 use Prim.Native.Nat.{ℕ, _*_, _^_, _≤_, _<_}
 use mathlib.Core.List.{List}
 use mathlib.Core.Path.{_≡_, refl, sym, ap, _∙_}
+use native.Mathlib.Nat.{mul-mul-mul-comm}
 use native.Mathlib.Omega.{arith}
 use lib.Dec.{T, leb}
-use lib.Ieee.{binary64, ofBits}
+use lib.Ieee.{binary64, ofBits, le}
 use lib.Ieee.Positive.{num, den}
 use lib.IntN.{pos}
 use lib.ListN.{length, getD}
@@ -16,10 +17,10 @@ use Rattle.laws.proofs.Sole.{Sole, sole}
 use Rattle.exact.specs.Root.{root, IsRoot}
 use Rattle.exact.specs.Quotient.{quotient}
 use Rattle.exact.specs.Bound.{plain, ExactFloat, CloseTo, NearRoot}
-use Rattle.exact.proofs.Roots.{root-is}
-use Rattle.exact.proofs.Quotients.{quotient-zero, zero-bits}
+use Rattle.exact.proofs.Roots.{root-is, root-under}
+use Rattle.exact.proofs.Quotients.{quotient-zero, quotient-mono, zero-bits}
 use Rattle.exact.proofs.Division.{exact-float}
-use Rattle.exact.proofs.Noises.{variance-ranged, variance-near, noise-near, noise-plain, noise-zero}
+use Rattle.exact.proofs.Noises.{variance-ranged, variance-near, noise-near, noise-plain, noise-zero, root-most}
 use Rattle.verdict.specs.Verdict.{_⨟_, refuseIf}
 use Rattle.verdict.proofs.Verdicts.{Tabled, Refuses, refuses, zero-clear, then-spare}
 use Rattle.verdict.proofs.Answers.{paper-told}
@@ -31,7 +32,7 @@ use Rattle.pair.specs.Pair.{pairSpread, framesVerdict, pairVerdict, pair
 use Rattle.pair.specs.declared.PairFigures.{PairFigures}
 use Rattle.pair.specs.declared.Pair.the-variants.{Measured}
 use Rattle.pair.proofs.Spreads.{SameDifference, whole, zero-same, same-zero}
-use Rattle.pair.proofs.Accepts.{Accepted, tests, table, spread-most, accepted, measured}
+use Rattle.pair.proofs.Accepts.{Accepted, tests, table, spread-most, spread-greatest, accepted, measured}
 use Rattle.pair.proofs.Answers.{answer-is}
 
 module _ (w h full : ℕ) (mask first second : List ℕ) where
@@ -83,13 +84,30 @@ module _ (w h full : ℕ) (mask first second : List ℕ) (figures : PairFigures)
   pub whole-numbers : (figures .p ≡ pairSpread w h mask first second .p) × (figures .q ≡ 2 * (figures .n * figures .n))
   whole-numbers = rw are (refl, refl)
 
+  -- in-range: Q is from 8 to 2^29 and r at most 3,036,259,044; as floats, the variance is at most full scale² / 2 and the noise at most 0.7072 × full scale
+  pub in-range : (8 ≤ figures .q) × (figures .q ≤ 2 ^ 29) × (figures .r ≤ 3036259044)
+      × T (le (figures .variance) (quotient (full * full) 2))
+      × T (le (figures .noise) (quotient (7072 * full) 10000))
+  in-range =
+      let s = pairSpread w h mask first second in
+      let most = spread-most w h full mask first second (passed .frames) in
+      let low = times-le 2 2 (s .n) (s .n) (passed .two) (passed .two) in
+      let high = times-le (s .n) (s .n) 16384 16384 (passed .few) (passed .few) in
+      rw are (
+        omega (arith, low),
+        omega (arith, high),
+        omega (arith, root-under (2048 * s .p) 3036259045 (omega (arith, spread-greatest w h full mask first second (passed .frames)))),
+        quotient-mono (s .p) (2 * (s .n * s .n)) (full * full) 2 (omega (arith, low)) (omega arith) (omega (arith, most, mul-mul-mul-comm (s .n) full (s .n) full)),
+        quotient-mono (root (2048 * s .p)) (64 * s .n) (7072 * full) 10000 (omega (arith, passed .two)) (omega arith) (omega (arith, root-most (s .p) (s .n * full) most)),
+      )
+
   -- in-limits: P is at most (n × full scale)², so below 2^53, and so is Q; both are exact as floats
   pub in-limits : (figures .p ≤ figures .n * full * (figures .n * full)) × (figures .p < 2 ^ 53) × (figures .q < 2 ^ 53)
       × ExactFloat (figures .p) × ExactFloat (figures .q)
   in-limits =
-      let square = times-le (figures .n) (figures .n) 16384 16384 (counts .2) (counts .2) in
-      let below : (figures .p < 2 ^ 53) × (figures .q < 2 ^ 53) = (rw are (passed .exact), omega (arith, square, whole-numbers .1)) in
-      (rw are (spread-most w h full mask first second (passed .frames)), below .0, below .1, exact-float (figures .p) (omega (arith, below .0)), exact-float (figures .q) (omega (arith, below .1)))
+      let small : figures .p < 2 ^ 53 = rw are (passed .exact) in
+      let q-small : figures .q < 2 ^ 53 = omega (arith, in-range .1) in
+      (rw are (spread-most w h full mask first second (passed .frames)), small, q-small, exact-float (figures .p) (omega (arith, small)), exact-float (figures .q) (omega (arith, q-small)))
 
   -- P is n × (sum of d²) − (sum of d)² over signed differences
   pub signed : pos (figures .p) ≡ numerator (sitesOf w h) (figures .n) (difference (seen mask first) (seen mask second))

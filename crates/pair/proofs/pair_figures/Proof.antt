@@ -1,5 +1,5 @@
 -- `pair_figures` is right because 1 to 6 are judged before the walk and 7 after it, which is the definition's order, and what passes is within the bounds of `figures_of`.
-use mathlib.Core.Path.{_≡_, sym, ap, _∙_}
+use mathlib.Core.Path.{sym, ap, _∙_}
 use borrow.Author.Needs.{needs}
 use Rattle.pair.specs.Figures.{figuresOf}
 use Rattle.pair.proofs.Accepts.{lent}
