@@ -136,8 +136,8 @@ uint64_t tip_unpack_raw10(size_t width, size_t height,
  *   second       nothing. Both may be one buffer: p is then 0
  *   place        written: the first offending site for 5 and 6, else 0
  *   n            written: the count of surveyed sites, 2 to 16384
- *   p            written: n * (sum of d * d) - (sum of d) * (sum of d), 0 to the square of n * full_scale: 0 exactly
- *                where all d are equal, and below 2^53, so exact as a double, as q is
+ *   p            written: n * (sum of d * d) - (sum of d) * (sum of d), 0 to the square of n * full_scale. It is 0
+ *                exactly where all d are equal. Like q it is below 2^53, so exact as a double
  *   q            written: 2 * n * n, 8 to 2^29: the exact variance is p / q grey levels squared
  *   r            written: the greatest whole number with r * r <= 2048 * p, 0 to 3036259044
  *   variance     written: p / q, rounded once, so off by at most one part in 2^52; grey levels squared, 0 to

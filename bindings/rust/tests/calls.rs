@@ -68,7 +68,7 @@ fn pair() {
         pair_figures(SMALL, &[0; 4], &FIRST, &SECOND),
         Ok(figures(4, 0.125, 90, 0.3515625))
     );
-    // one buffer may be lent twice to be read; p is not n here, as it is in K1
+    // one buffer may be lent twice to be read. In K1 p equals n; here it does not
     assert_eq!(
         pair_figures(SMALL, &[0; 4], &FIRST, &FIRST),
         Ok(figures(0, 0.0, 0, 0.0))

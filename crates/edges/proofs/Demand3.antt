@@ -27,7 +27,7 @@ pub record Demand3 (w h full : ℕ) (mask first second : List ℕ) (figures : Pa
   -- P = n × (sum of d²) − (sum of d)² over the signed differences d, and Q = 2 × n²
   pub exact : (pos (figures .p) ≡ numerator (sitesOf w h) (figures .n) (difference (seen mask first) (seen mask second)))
       × (figures .q ≡ 2 * (figures .n * figures .n))
-  -- no overflow: P is at most (n × full scale)², and both stay below 2^53, so they are exact as floats too
+  -- no overflow: P is at most (n × full scale)², and P and Q stay below 2^53, so they are exact as floats too
   pub room : (figures .p ≤ figures .n * full * (figures .n * full)) × (figures .p < 2 ^ 53) × (figures .q < 2 ^ 53)
       × ExactFloat (figures .p) × ExactFloat (figures .q)
   -- zero exactly when all differences are equal

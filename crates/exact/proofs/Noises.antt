@@ -83,7 +83,7 @@ noise-mono P P′ n h k =
     quotient-mono (root (2048 * P)) (64 * n) (root (2048 * P′)) (64 * n) some some
     (mul-le-mul-right (64 * n) (root-mono (2048 * P) (2048 * P′) (omega arith)))
 
--- where P is at most m², r is at most 45.2608 × m, since 45.2608² is above 2048
+-- where P is at most m², r is at most 45.2608 × m (64 × 0.7072), since 45.2608² is above 2048
 pub root-most : (P m : ℕ) → P ≤ m * m → 10000 * root (2048 * P) ≤ 452608 * m
 root-most P m h = ⊎-elim (λ l. absurd (above l)) (λ g. g) (lt-or-ge (452608 * m) (10000 * root (2048 * P)))
   where

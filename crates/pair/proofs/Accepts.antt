@@ -20,6 +20,7 @@ use Rattle.refusals.specs.Judge.{otherThan}
 use Rattle.refusals.proofs.Judges.{codesTest, samplesTest, mask-tabled}
 use Rattle.pair.specs.Figures.{spreadOf}
 use Rattle.pair.specs.Pair.{pairSpread, framesVerdict, pairVerdict}
+use Rattle.pair.specs.declared.Spread.{Spread}
 use Rattle.pair.proofs.Frames.{Readable, readable}
 use Rattle.pair.proofs.Spreads.{counted, spread-is}
 
@@ -63,13 +64,17 @@ spread-most w h full mask first second r =
     (λ i l. omega (arith, r .of-first .range i l, r .of-second .range i l)) in
     omega (arith, spread-is mask first second (sitesOf w h), most)
 
--- so it stays far below 2^53: there are at most 16,384 sites, and full scale is at most 4,095
+-- so it is at most (16,384 × 4,095)², which is below 2^52: there are at most 16,384 sites, and full scale is at most 4,095
 pub spread-greatest : (w h full : ℕ) (mask first second : List ℕ) → Readable w h full mask first second → pairSpread w h mask first second .p ≤ 4501400872550400
 unfolding spreadOf
 spread-greatest w h full mask first second r =
     let n = pairSpread w h mask first second .n in
     let side : n * full ≤ 16384 * 4095 = times-le n full 16384 4095 (surveyed-most w h mask) (scale full (r .of-first .of .scaled) .high) in
     omega (arith, spread-most w h full mask first second r, times-le (n * full) (n * full) (16384 * 4095) (16384 * 4095) side side)
+
+-- n and P within these bounds have floats that are near
+pub measured-at : (s : Spread) → (2 ≤ s .n) × (s .n ≤ 16384) × (s .p < 2 ^ 53) → Measured (s .p) (s .n)
+measured-at s bounds = record { exact = bounds .2; some = omega (arith, bounds .0); few = omega (arith, bounds .1) }
 
 -- what an accepted pair is
 pub record Accepted (w h full : ℕ) (mask first second : List ℕ) : Type 0 where
@@ -91,6 +96,5 @@ module _ {w h full : ℕ} {mask first second : List ℕ} where
         exact = omega (arith, spread-greatest w h full mask first second frames);
       }
 
-  -- so both floats are near
   pub measured : Accepted w h full mask first second → Measured (pairSpread w h mask first second .p) (pairSpread w h mask first second .n)
-  measured a = record { exact = a .exact; some = omega (arith, a .two); few = omega (arith, a .few) }
+  measured a = measured-at (pairSpread w h mask first second) (a .two, a .few, a .exact)

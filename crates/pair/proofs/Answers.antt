@@ -10,7 +10,7 @@ use lib.ListN.{length}
 use Rattle.exact.specs.Root.{root}
 use Rattle.exact.specs.Quotient.{quotientOrZero}
 use Rattle.exact.proofs.Quotients.{ranged-quotient}
-use Rattle.exact.proofs.Noises.{Measured, variance-ranged, noise-ranged}
+use Rattle.exact.proofs.Noises.{variance-ranged, noise-ranged}
 use Rattle.verdict.specs.Verdict.{_⨟_, refuseIf}
 use Rattle.verdict.specs.declared.Refusal.{Refusal}
 use Rattle.verdict.specs.declared.Verdict.the-variants as verdict
@@ -22,14 +22,14 @@ use Rattle.pair.specs.declared.Spread.{Spread}
 use Rattle.pair.specs.declared.PairFigures.{PairFigures}
 use Rattle.pair.specs.declared.Pair.the-variants as pair
 use Rattle.pair.proofs.Frames.{readable}
-use Rattle.pair.proofs.Accepts.{Accepted, accepted}
+use Rattle.pair.proofs.Accepts.{Accepted, accepted, measured-at}
 
 -- the six numbers as they are worked out
 pub figures-are : (s : Spread) → (2 ≤ s .n) × (s .n ≤ 16384) × (s .p < 2 ^ 53)
     → (r : ℕ) (x y : Float) → r ≡ root (2048 * s .p) → x ≡ quotientOrZero (s .p) (2 * (s .n * s .n)) → y ≡ quotientOrZero r (64 * s .n)
     → record { n = s .n; p = s .p; q = 2 * (s .n * s .n); r = r; variance = x; noise = y } ≡ figuresOf s
 figures-are s bounds r x y e f g =
-    let m : Measured (s .p) (s .n) = record { exact = bounds .2; some = omega (arith, bounds .0); few = omega (arith, bounds .1) } in
+    let m = measured-at s bounds in
     let variance-is : x ≡ figuresOf s .variance = f ∙ ranged-quotient _ _ (variance-ranged (s .p) (s .n) m) in
     let noise-is : y ≡ figuresOf s .noise = g ∙ ap (λ (t : ℕ). quotientOrZero t (64 * s .n)) e ∙ ranged-quotient _ _ (noise-ranged (s .p) (s .n) m) in
     rw (variance-is, noise-is, e)
@@ -67,7 +67,7 @@ module _ (w h full : ℕ) (mask first second : List ℕ) where
   unfolding pairAnswer pairPaper
   accepted-is figures e f = rw (e, f) (refl, refl)
 
-  -- what figures that are answered say
+  -- frames that are answered with figures are accepted, and these are their figures
   pub answer-is : (figures : PairFigures) → pairAnswer w h full mask first second ≡ pair.Measured figures
       → Accepted w h full mask first second × (figures ≡ pairFigures w h mask first second)
   unfolding pairAnswer

@@ -60,7 +60,7 @@ module _ (w h full : ℕ) (mask first second : List ℕ) where
       ≡ pairVerdict w h full mask first second
   spare = then-spare (pairVerdict w h full mask first second) 14 0 (λ e. lt-leb (2 ^ 53) (pairSpread w h mask first second .p) (accepted e .exact))
 
-  -- answered: where the number is 0 the answer is figures, the paper's
+  -- answered: where the number is 0 the answer is the paper's figures
   pub answered : pairPaper w h full mask first second .number ≡ 0
       → pairAnswer w h full mask first second ≡ Measured (pairPaper w h full mask first second .figures)
   unfolding pairAnswer pairPaper

@@ -9,7 +9,7 @@ use Rattle.exact.specs.Quotient.{quotient}
 use Rattle.pair.specs.declared.Spread.{Spread}
 use Rattle.pair.specs.declared.PairFigures.{PairFigures}
 
--- d: second frame minus first, of what is seen of each at a site (0 in both where it is not surveyed)
+-- d: second frame minus first, as each is seen: at a site that is not surveyed 0 less 0
 abbrev pub difference : (ℕ → ℕ) → (ℕ → ℕ) → ℕ → ℤ
 difference first second i = second i ⊖ first i
 

@@ -10,7 +10,7 @@ ghost use Rattle.pair.specs.Pair.{framesVerdict, pairAnswer, paperOf, pa
 use verdict::Refusal;
 use verdict::Verdict;
 
-// n surveyed sites; P and Q, and the variance P/Q in grey levels squared; r, the root of 2048 × P, and the noise r / (64 × n) in grey levels.
+// n surveyed sites; P and Q, and the variance P/Q in grey levels squared; r, the whole root of 2048 × P, and the noise r / (64 × n) in grey levels.
 pub struct PairFigures {
     pub n: u64,
     pub p: u64,
@@ -59,7 +59,7 @@ fn judge(
     verdict::then(masked, verdict::then(over_first, over_second))
 }
 
-// |d| of two samples, at 16 bits: with exact::apart, at 64, the call takes twice the time.
+// |d| of two samples, at 16 bits: with exact::apart, at 64, the walk takes twice the time.
 fn samples_apart(first: u16, second: u16) -> u16
     ensures { λ r. ⌜ r ≡ apart second first ⌝ }
 {

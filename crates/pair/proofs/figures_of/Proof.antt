@@ -1,4 +1,4 @@
--- `figures_of` is right because n is at most 16,384 and P below 2 ^ 53, so no product overflows and both divisions are exact fractions', rounded once.
+-- `figures_of` is right because n is from 2 to 16,384 and P below 2 ^ 53: no product overflows, no cast loses a bit, and each division, by a number above 0, is rounded once.
 use Prim.Native.Nat.{_*_, _≤_}
 use native.Mathlib.Omega.{arith}
 use borrow.Author.Needs.{needs}
