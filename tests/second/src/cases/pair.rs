@@ -208,7 +208,8 @@ fn roots(tally: &mut Tally, dice: &mut Dice) {
         (10_922, 5460),
         (10_921, 5461),
         (10_922, 5462),
-        // At full scale 4095 these two are 1 short of a square, and a root taken in floats comes out one too great.
+        // At full scale 4095 these two are 1 short of a square, and a root taken in floats comes
+        // out one too great.
         (4747, 4058),
         (9494, 2029),
     ] {
