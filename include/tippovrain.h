@@ -50,7 +50,7 @@
  * Conventions of every call:
  *  - The result is the refusal's number, 0 where the call is accepted.
  *  - Every other number of the answer goes through a pointer of its own, which is written on EVERY call. On a
- *    refusal it gets 0, place aside; where the call is accepted, place gets 0.
+ *    refusal it gets 0, a double in every bit, place aside; where the call is accepted, place gets 0.
  *  - On a refusal every lent buffer stays as it was, to the last byte.
  *  - Any value of a parameter's type may be handed in, sides and lengths included: what is out of range is refused.
  *  - Where a figure is two whole numbers, numerator over denominator, they are not reduced, and in an accepted call
@@ -145,7 +145,7 @@ uint64_t tip_unpack_raw10(size_t width, size_t height,
  *   noise        written: r / (64 * n), rounded once; grey levels, 0 to 0.7072 * full_scale. 32 * n * noise is at most
  *                1 from the root of 512 * p, and noise is 0 where p is
  *
- * These are the ranges of an accepted call; on a refusal all six numbers are 0, variance and noise in every bit.
+ * These are the ranges of an accepted call; on a refusal all six numbers are 0.
  *
  * Refusals, in the order tested: 1; 2; 4 (mask, first or second); 5; 6 (all sites of first, then all of second);
  * 7 (fewer than 2 surveyed sites).

@@ -46,7 +46,6 @@ module _ (w h full : ℕ) (mask first second : List ℕ) where
       (tabled-then (mask-tabled w h full mask tabled-none (tabled-then (tabled _ []) (tabled _ []))) (tabled-then (tabled _ []) (tabled _ [])))
       (tabled _ [])
 
-module _ (w h full : ℕ) (mask first second : List ℕ) where
   -- what the walk asks of the lengths
   pub lent : framesVerdict w h full mask first second ≡ verdict.Clear
       → (length mask ≤ 16384) × (length first ≡ length mask) × (length second ≡ length mask)

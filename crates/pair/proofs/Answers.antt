@@ -2,7 +2,7 @@
 -- and within the bounds of an accepted pair each rounded division is the exact fraction's.
 use Prim.Native.Nat.{ℕ, _*_, _^_, _≤_, _<_}
 use mathlib.Core.List.{List}
-use mathlib.Core.Path.{_≡_, refl, sym, ap, _∙_}
+use mathlib.Core.Path.{_≡_, refl, ap, _∙_}
 use native.Mathlib.Omega.{arith}
 use lib.Dec.{ltb}
 use lib.Ieee.{Float}
@@ -52,10 +52,8 @@ module _ (w h full : ℕ) (mask first second : List ℕ) where
     unfolding pairVerdict _⨟_
     rest = rw clear (ap (λ (t : Spread). refuseIf 7 0 (ltb (t .n) 2)) same-spread)
 
-    pub in-bounds : refuseIf 7 0 (ltb (s .n) 2) ≡ verdict.Clear → (2 ≤ s .n) × (s .n ≤ 16384) × (s .p < 2 ^ 53)
-    in-bounds f =
-        let a = accepted (sym rest ∙ f) in
-        rw same-spread (a .two, a .few, a .exact)
+    pub in-bounds : pairVerdict w h full mask first second ≡ verdict.Clear → (2 ≤ s .n) × (s .n ≤ 16384) × (s .p < 2 ^ 53)
+    in-bounds f = let a = accepted f in rw same-spread (a .two, a .few, a .exact)
 
   pub refused-is : (r : Refusal) → pairVerdict w h full mask first second ≡ verdict.Refused r
       → (pair.Refused r ≡ pairAnswer w h full mask first second) × (paperOf (pair.Refused r) ≡ pairPaper w h full mask first second)

@@ -1,7 +1,7 @@
 -- What is promised of `pair_figures`, for any numbers, any mask and any two frames.
 use Prim.Native.Nat.{ℕ, _*_, _^_, _≤_, _<_}
 use mathlib.Core.List.{List}
-use mathlib.Core.Path.{_≡_, refl, sym, ap, _∙_}
+use mathlib.Core.Path.{_≡_, refl, sym, _∙_}
 use native.Mathlib.Nat.{mul-mul-mul-comm}
 use native.Mathlib.Omega.{arith}
 use lib.Dec.{T, leb}
@@ -125,11 +125,8 @@ module _ (w h full : ℕ) (mask first second : List ℕ) (figures : PairFigures)
   -- and 0 where P is 0
   pub none : figures .p ≡ 0 → figures .variance ≡ ofBits binary64 0
   none z =
-      let s = pairSpread w h mask first second in
-      ap (λ (f : PairFigures). f .variance) are
-      ∙ ap (λ (P : ℕ). quotient P (2 * (s .n * s .n))) (sym (whole-numbers .0) ∙ z)
-      ∙ quotient-zero (2 * (s .n * s .n)) (variance-ranged (s .p) (s .n) (measured passed) .some)
-      ∙ sym zero-bits
+      rw (are, sym (whole-numbers .0) ∙ z)
+      (quotient-zero _ (variance-ranged _ _ (measured passed) .some) ∙ sym zero-bits)
 
   -- r is the greatest whole number with r² ≤ 2048 × P; the noise is a number, finite and not negative, and 32 × n × noise is at most 1 from the root of 512 × P
   pub noise-close : IsRoot (2048 * figures .p) (figures .r)
@@ -141,11 +138,7 @@ module _ (w h full : ℕ) (mask first second : List ℕ) (figures : PairFigures)
 
   -- and where P is 0 the noise is 0
   pub noise-none : figures .p ≡ 0 → figures .noise ≡ ofBits binary64 0
-  noise-none z =
-      ap (λ (f : PairFigures). f .noise) are
-      ∙ ap (λ (P : ℕ). quotient (root (2048 * P)) (64 * pairSpread w h mask first second .n)) (sym (whole-numbers .0) ∙ z)
-      ∙ noise-zero (pairSpread w h mask first second .n) (measured passed .some)
-      ∙ sym zero-bits
+  noise-none z = rw (are, sym (whole-numbers .0) ∙ z) (noise-zero _ (measured passed .some) ∙ sym zero-bits)
 
 -- blind: what a frame holds at a site that is not surveyed changes no answer
 pub blind : (w h full : ℕ) {mask first first′ second second′ : List ℕ} → Agree mask first first′ → Agree mask second second′

@@ -1,11 +1,26 @@
 -- `pair_figures` is right because 1 to 6 are judged before the walk and 7 after it, which is the definition's order, and what passes is within the bounds of `figures_of`.
-use mathlib.Core.Path.{sym, ap, _∙_}
+use mathlib.Core.Path.{_≡_, sym, ap, _∙_}
 use borrow.Author.Needs.{needs}
+use Rattle.verdict.specs.declared.Verdict.the-variants as verdict
 use Rattle.pair.specs.Figures.{figuresOf}
+use Rattle.pair.specs.Pair.{framesVerdict, pairVerdict}
 use Rattle.pair.proofs.Accepts.{lent}
 use Rattle.pair.proofs.Answers.{frames-refused, same-spread, rest, in-bounds, refused-is, accepted-is}
 use Rattle.pair.proofs.pair_figures.Statement.{statement}
 use Rattle.pair.proofs.pair_figures.Tie as tie
+
+-- past the judge, 1 to 6 refuse nothing
+module _ (c : tie.After-enum-told) where
+  abbrev begun : tie.Start
+  begun = c .before .before .before .before .before .before
+
+  cleared : framesVerdict (begun .args .width) (begun .args .height) (begun .args .full-scale) (begun .args .mask .now) (begun .args .first .now) (begun .args .second .now) ≡ verdict.Clear
+  cleared = sym (c .before .before .judge .ensures) ∙ c .enum-told .given .1
+
+-- and past the walk, 7 is the verdict
+seven : (c : tie.After-refuse-if) → let a = begun (c .before .before .before) .args in
+    c .refuse-if .result ≡ pairVerdict (a .width) (a .height) (a .full-scale) (a .mask .now) (a .first .now) (a .second .now)
+seven c = c .refuse-if .ensures ∙ rest _ _ _ _ _ _ _ (cleared (c .before .before .before)) (c .before .before .spread-of .ensures)
 
 judge-requires : tie.Need-judge-requires
 judge-requires c κs = search needs
@@ -20,7 +35,7 @@ enum-told : tie.Need-enum-told
 enum-told c = search needs
 
 spread-of-requires : tie.Need-spread-of-requires
-spread-of-requires c κs = lent _ _ _ _ _ _ (sym (c .before .before .judge .ensures) ∙ c .enum-told .given .1)
+spread-of-requires c κs = lent _ _ _ _ _ _ (cleared c)
 
 refuse-if-requires : tie.Need-refuse-if-requires
 refuse-if-requires c κs = search needs
@@ -33,24 +48,16 @@ enum-told-2 c = search needs
 
 figures-of-requires : tie.Need-figures-of-requires
 figures-of-requires c κs = let walked = c .before .before .before .before in
-    let judged = walked .before in
-    in-bounds _ _ _ _ _ _ _ (sym (judged .before .before .judge .ensures) ∙ judged .enum-told .given .1) (walked .spread-of .ensures)
-    (sym (c .before .before .refuse-if .ensures) ∙ c .enum-told2 .given .1)
+    in-bounds _ _ _ _ _ _ _ (cleared (walked .before)) (walked .spread-of .ensures) (sym (seven (c .before .before)) ∙ c .enum-told2 .given .1)
 
 returns-2 : tie.Need-returns-2
-returns-2 c = let walked = c .before .before .before .before .before in
-    let judged = walked .before in
-    let seven = rest _ _ _ _ _ _ _ (sym (judged .before .before .judge .ensures) ∙ judged .enum-told .given .1) (walked .spread-of .ensures) in
-    refused-is _ _ _ _ _ _ _ (sym seven ∙ sym (c .before .before .before .refuse-if .ensures) ∙ c .before .refusal .given .1)
+returns-2 c = refused-is _ _ _ _ _ _ _ (sym (seven (c .before .before .before)) ∙ c .before .refusal .given .1)
 
 returns-3 : tie.Need-returns-3
 returns-3 c = let told = c .before in
     let walked = told .before .before .before .before in
-    let judged = walked .before in
-    let clear = sym (judged .before .before .judge .ensures) ∙ judged .enum-told .given .1 in
-    let seven = rest _ _ _ _ _ _ _ clear (walked .spread-of .ensures) in
-    accepted-is _ _ _ _ _ _ _ (sym seven ∙ sym (told .before .before .refuse-if .ensures) ∙ told .enum-told2 .given .1)
-    (c .figures-of .ensures ∙ ap figuresOf (same-spread _ _ _ _ _ _ _ clear (walked .spread-of .ensures)))
+    accepted-is _ _ _ _ _ _ _ (sym (seven (told .before .before)) ∙ told .enum-told2 .given .1)
+    (c .figures-of .ensures ∙ ap figuresOf (same-spread _ _ _ _ _ _ _ (cleared (walked .before)) (walked .spread-of .ensures)))
 
 pub pair-figures-spec : {M : Type 1} → statement M
 pair-figures-spec =
