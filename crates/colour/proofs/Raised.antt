@@ -3,6 +3,7 @@ use Prim.Native.Nat.{ℕ, _+_, _*_, _≤_, _<_}
 use mathlib.Core.Bool.{true}
 use mathlib.Core.List.{List}
 use mathlib.Core.Path.{_≡_, refl, sym, ap, _∙_}
+use native.Mathlib.Nat.{zero-mul}
 use native.Mathlib.Omega.{arith}
 use lib.Dec.{ltb}
 use lib.ListN.{length, getD}
@@ -15,7 +16,7 @@ use Rattle.verdict.proofs.Answers.{answer-same}
 use Rattle.window.specs.Shape.{sitesOf}
 use Rattle.window.specs.View.{surveyed, above, seen, one}
 use Rattle.window.proofs.Sides.{Sides}
-use Rattle.window.proofs.Views.{seen-most, seen-raised}
+use Rattle.window.proofs.Views.{seen-most, seen-shift}
 use Rattle.refusals.specs.Judge.{samplesOf, frameVerdict}
 use Rattle.plane.proofs.Planes.{box-above}
 use Rattle.colour.specs.Bayer.{mosaicOf}
@@ -28,7 +29,7 @@ use Rattle.colour.proofs.Figures.{same-total, same-ratio}
 module _ (w h full black order d : ℕ) (mask frame brighter : List ℕ) (long : length brighter ≡ length frame) (dark : black + d ≤ full)
     (each : (i : ℕ) → i < sitesOf w h → surveyed (getD mask i 0) ≡ true → (getD brighter i 0 ≡ getD frame i 0 + d) × (getD brighter i 0 ≤ full)) where
   lifted : (i : ℕ) → i < sitesOf w h → seen mask brighter i ≡ seen mask frame i + d * one mask i
-  lifted i l = seen-raised mask frame brighter d i (λ t. each i l t .0)
+  lifted i l = omega (arith, seen-shift mask frame brighter d 0 i (λ t. omega (arith, each i l t .0)), zero-mul (one mask i))
 
   -- neither frame has a surveyed sample above full scale
   in-scale : (i : ℕ) → i < sitesOf w h → above full (seen mask brighter) i ≡ above full (seen mask frame) i

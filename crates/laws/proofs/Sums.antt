@@ -96,9 +96,13 @@ unfolding sumTo
 sum-times zero c f = sym (mul-zero c)
 sum-times (suc n) c f = omega (arith, sum-times n c f, mul-add c (sumTo n f) (f n))
 
--- two sums whose terms differ by multiples of a third's do so too
-pub sum-shift : (n up down : ℕ) (c f g : ℕ → ℕ) → ((k : ℕ) → k < n → g k + down * c k ≡ f k + up * c k)
-    → sumTo n g + down * sumTo n c ≡ sumTo n f + up * sumTo n c
+-- t is s with one constant, up less down, added c times
+abbrev pub Shifted : ℕ → ℕ → ℕ → ℕ → ℕ → Type 0
+Shifted up down c s t = t + down * c ≡ s + up * c
+
+-- sums are so where their terms are
+pub sum-shift : (n up down : ℕ) (c f g : ℕ → ℕ) → ((k : ℕ) → k < n → Shifted up down (c k) (f k) (g k))
+    → Shifted up down (sumTo n c) (sumTo n f) (sumTo n g)
 unfolding sumTo
 sum-shift zero up down c f g h = omega (arith, mul-zero up, mul-zero down)
 sum-shift (suc n) up down c f g h =
@@ -207,8 +211,8 @@ module _ (a b : ℕ) where
   in-scaled B f g h =
       sum-scaled (b - a) B (λ (k : ℕ). f (a + k)) (λ (k : ℕ). g (a + k)) (λ k l. h (a + k) (omega arith) (omega arith))
 
-  pub in-shift : (up down : ℕ) (c f g : ℕ → ℕ) → ((k : ℕ) → a ≤ k → k < b → g k + down * c k ≡ f k + up * c k)
-      → sumIn a b g + down * sumIn a b c ≡ sumIn a b f + up * sumIn a b c
+  pub in-shift : (up down : ℕ) (c f g : ℕ → ℕ) → ((k : ℕ) → a ≤ k → k < b → Shifted up down (c k) (f k) (g k))
+      → Shifted up down (sumIn a b c) (sumIn a b f) (sumIn a b g)
   unfolding sumIn
   in-shift up down c f g h =
       sum-shift (b - a) up down (λ (k : ℕ). c (a + k)) (λ (k : ℕ). f (a + k)) (λ (k : ℕ). g (a + k)) (λ k l. h (a + k) (omega arith) (omega arith))
@@ -232,8 +236,8 @@ module _ (a b l r : ℕ) (f g : ℕ → ℕ → ℕ) where
       (λ u p q. in-scaled l r B (λ (v : ℕ). f u v) (λ (v : ℕ). g u v) (λ v s t. h u v p q s t))
 
   pub box-shift : (up down : ℕ) (c : ℕ → ℕ → ℕ)
-      → ((u v : ℕ) → a ≤ u → u < b → l ≤ v → v < r → g u v + down * c u v ≡ f u v + up * c u v)
-      → sumBox a b l r g + down * sumBox a b l r c ≡ sumBox a b l r f + up * sumBox a b l r c
+      → ((u v : ℕ) → a ≤ u → u < b → l ≤ v → v < r → Shifted up down (c u v) (f u v) (g u v))
+      → Shifted up down (sumBox a b l r c) (sumBox a b l r f) (sumBox a b l r g)
   unfolding sumBox
   box-shift up down c h =
       in-shift a b up down (λ (u : ℕ). sumIn l r (λ (v : ℕ). c u v)) (λ (u : ℕ). sumIn l r (λ (v : ℕ). f u v)) (λ (u : ℕ). sumIn l r (λ (v : ℕ). g u v))

@@ -15,7 +15,7 @@ use Rattle.verdict.specs.declared.Verdict.the-variants as verdict
 use Rattle.verdict.proofs.Verdicts.{Tabled, Refuses, refuses}
 use Rattle.verdict.proofs.Answers.{paper-told}
 use Rattle.window.specs.View.{surveyed, seen, one}
-use Rattle.window.proofs.Views.{Agree, same-view}
+use Rattle.window.proofs.Views.{Agree, same-view, Offset, seen-shift}
 use Rattle.refusals.specs.Judge.{frameVerdict}
 use Rattle.plane.specs.Plane.{siteAt}
 use Rattle.plane.proofs.Planes.{site-in}
@@ -24,7 +24,7 @@ use Rattle.lines.specs.Marks.{linesVerdict, linesAnswer, paperOf, linesP
 use Rattle.lines.specs.declared.Marked.the-variants.{Done}
 use Rattle.lines.proofs.Pools.{mark-line}
 use Rattle.lines.proofs.Marking.{Accepted, tests, table, accepted, accepted-is, done-clear}
-use Rattle.lines.proofs.Shifts.{mark-shift, none-far, none-surveyed, zero-or-one, seen-shift, blank-line, line-shift}
+use Rattle.lines.proofs.Shifts.{mark-shift, none-far, none-surveyed, zero-or-one, blank-line, line-shift}
 use Rattle.lines.proofs.Turns.{turned, turnedPlane, turned-mark, turned-accepted}
 
 module _ (lines : ℕ → ℕ → Lines) (w h full : ℕ) (mask frame marks : List ℕ) where
@@ -104,8 +104,7 @@ module _ (lines : ℕ → ℕ → Lines) (w h full : ℕ) (mask frame marks : Li
           ∙ none-far n l counts
 
   -- adding one constant, up less down, to every surveyed sample, none leaving 0 to full scale, changes no mark
-  pub shifted : (other : List ℕ) (up down : ℕ)
-      → ((i : ℕ) → i < length mask → surveyed (getD mask i 0) ≡ true → getD other i 0 + down ≡ getD frame i 0 + up)
+  pub shifted : (other : List ℕ) (up down : ℕ) → Offset up down mask frame other
       → linesAnswer lines w h full mask frame (length marks) ≡ Done → linesAnswer lines w h full mask other (length marks) ≡ Done
       → linesBuffer lines w h full mask frame marks ≡ linesBuffer lines w h full mask other marks
   unfolding markAt

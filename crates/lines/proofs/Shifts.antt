@@ -7,20 +7,15 @@ use mathlib.Core.Path.{_≡_, refl, sym, ap, _∙_}
 use native.Mathlib.Nat.{add-mul, mul-add, mul-assoc, mul-comm, zero-mul}
 use native.Mathlib.Omega.{arith}
 use lib.Dec.{ltb}
-use lib.ListN.{getD}
 use borrow.Author.Tests.{le-ltb}
 use Rattle.laws.specs.Sum.{sumTo, sumIn}
 use Rattle.laws.specs.Signed.{apart}
-use Rattle.laws.proofs.Sums.{in-shift, box-shift}
-use Rattle.window.specs.View.{surveyed, seenAt, seen, one}
+use Rattle.laws.proofs.Sums.{Shifted, in-shift, box-shift}
+use Rattle.window.specs.View.{seen, one}
 use Rattle.plane.specs.Plane.{siteAt, boxSum}
 use Rattle.plane.proofs.Planes.{box-at-most, seen-scaled}
 use Rattle.lines.specs.Lines.{Lines, before, after, pooled, defective, markOf, lineSum}
 use Rattle.lines.proofs.Pools.{before-in, after-in}
-
--- one constant, up less down, at every surveyed site: frame plus up is other plus down
-abbrev pub Shifted : ℕ → ℕ → ℕ → ℕ → ℕ → Type 0
-Shifted up down c s t = t + down * c ≡ s + up * c
 
 -- s × C and S × c stay as far apart
 apart-shift : (up down c s t C S T : ℕ) → Shifted up down c s t → Shifted up down C S T → apart (s * C) (S * c) ≡ apart (t * C) (T * c)
@@ -74,17 +69,6 @@ zero-or-one n l c s = by (defective (c l) (s l) (pooled n c l) (pooled n s l))
     by : (b : Bool) → (_≡_ {A = ℕ} (cond b 1 0) 0) ⊎ (_≡_ {A = ℕ} (cond b 1 0) 1)
     by true = inr refl
     by false = inl refl
-
--- what is seen at a surveyed site grows by the constant, and at any other by nothing
-pub seen-shift : (mask frame other : List ℕ) (up down i : ℕ)
-    → (surveyed (getD mask i 0) ≡ true → getD other i 0 + down ≡ getD frame i 0 + up)
-    → Shifted up down (one mask i) (seen mask frame i) (seen mask other i)
-unfolding one seen seenAt
-seen-shift mask frame other up down i = by (surveyed (getD mask i 0)) (getD frame i 0) (getD other i 0)
-  where
-    by : (b : Bool) (x y : ℕ) → (b ≡ true → y + down ≡ x + up) → Shifted up down (cond b 1 0) (cond b x 0) (cond b y 0)
-    by true x y h = omega (arith, h refl)
-    by false x y h = omega arith
 
 -- a frame of no sample shows 0 everywhere
 pub blank-line : (lines : Lines) (w h plane : ℕ) (mask : List ℕ) (l : ℕ) → lineSum lines w h plane (seen mask []) l ≡ 0

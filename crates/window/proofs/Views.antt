@@ -1,14 +1,14 @@
 -- The laws of what is seen through a mask.
-use Prim.Native.Nat.{ℕ, _+_, _*_, _≤_, zero-le}
+use Prim.Native.Nat.{ℕ, _+_, _*_, _≤_, _<_, zero-le}
 use mathlib.Core.Bool.{Bool, true, false, cond}
 use mathlib.Core.List.{List}
 use mathlib.Core.Path.{_≡_, refl, fun-ext}
-use native.Mathlib.Nat.{le-trans, mul-zero}
+use native.Mathlib.Nat.{le-trans}
 use native.Mathlib.Omega.{arith}
 use lib.ListN.{length, getD}
 use borrow.Author.Tests.{eq-eqb, ne-eqb}
 use Rattle.laws.specs.Sum.{sumTo}
-use Rattle.laws.proofs.Sums.{sum-le}
+use Rattle.laws.proofs.Sums.{Shifted, sum-le}
 use Rattle.window.specs.Shape.{sitesOf}
 use Rattle.window.specs.View.{surveyed, seenAt, seen, one}
 use Rattle.window.proofs.Sides.{sites-few}
@@ -67,15 +67,26 @@ seen-counted mask frame B i = by (surveyed (getD mask i 0))
     by true h = omega arith
     by false h = zero-le
 
--- a sample that is raised by d where its site is surveyed
-pub seen-raised : (mask f g : List ℕ) (d i : ℕ) → (surveyed (getD mask i 0) ≡ true → getD g i 0 ≡ getD f i 0 + d)
-    → seen mask g i ≡ seen mask f i + d * one mask i
-unfolding seen one seenAt
-seen-raised mask f g d i = by (surveyed (getD mask i 0))
+-- g is f with one constant, up less down, added to every surveyed sample; at its other sites g may hold anything. Where a constant is taken off, up is 0
+-- (a place past the end of the mask is no site)
+abbrev pub Offset : ℕ → ℕ → List ℕ → List ℕ → List ℕ → Type 0
+Offset up down mask f g = (i : ℕ) → i < length mask → surveyed (getD mask i 0) ≡ true → getD g i 0 + down ≡ getD f i 0 + up
+
+-- so of two frames of one length, and no surveyed sample of g has left 0 to full scale: samples are whole numbers from 0
+pub record Drifted (up down full : ℕ) (mask f g : List ℕ) : Type 0 where
+  pub long : length g ≡ length f
+  pub offset : Offset up down mask f g
+  pub in-scale : (i : ℕ) → i < length mask → surveyed (getD mask i 0) ≡ true → getD g i 0 ≤ full
+
+-- what is seen at a surveyed site grows by the constant, and at any other by nothing
+pub seen-shift : (mask f g : List ℕ) (up down i : ℕ) → (surveyed (getD mask i 0) ≡ true → getD g i 0 + down ≡ getD f i 0 + up)
+    → Shifted up down (one mask i) (seen mask f i) (seen mask g i)
+unfolding one seen seenAt
+seen-shift mask f g up down i = by (surveyed (getD mask i 0)) (getD f i 0) (getD g i 0)
   where
-    by : (t : Bool) → (t ≡ true → getD g i 0 ≡ getD f i 0 + d) → cond t (getD g i 0) 0 ≡ cond t (getD f i 0) 0 + d * cond t 1 0
-    by true h = let e = h refl in omega arith
-    by false h = omega (arith, mul-zero d)
+    by : (t : Bool) (x y : ℕ) → (t ≡ true → y + down ≡ x + up) → Shifted up down (cond t 1 0) (cond t x 0) (cond t y 0)
+    by true x y h = omega (arith, h refl)
+    by false x y h = omega arith
 
 -- two frames of one length that hold the same at every surveyed site (and past the end of a mask that is shorter, which 4 refuses)
 pub record Agree (mask f g : List ℕ) : Type 0 where
