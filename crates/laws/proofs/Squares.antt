@@ -9,7 +9,7 @@ use Rattle.laws.specs.Signed.{_⊖_, apart}
 use Rattle.laws.specs.Sum.{sumTo}
 use Rattle.laws.proofs.Cases.{lt-or-ge}
 use Rattle.laws.proofs.Signeds.{⊖-eq, ⊖-cross}
-use Rattle.laws.proofs.Sums.{sum-zero, sum-scaled, zero-terms}
+use Rattle.laws.proofs.Sums.{sum-ext, sum-zero, sum-scaled, zero-terms}
 
 abbrev pub square : ℕ → ℕ
 square k = k * k
@@ -123,6 +123,10 @@ module _ (one x y : ℕ → ℕ) where
   abbrev pub AllEqual : ℕ → Type 0
   AllEqual N = (i j : ℕ) → i < N → j < N → one i ≡ 1 → one j ≡ 1 → y i ⊖ x i ≡ y j ⊖ x j
 
+  -- at any two of the places, d differs between them by as much as that of x′ and y′ does
+  abbrev pub AsFar : (ℕ → ℕ) → (ℕ → ℕ) → ℕ → Type 0
+  AsFar x′ y′ N = (i j : ℕ) → i < N → j < N → one i ≡ 1 → one j ≡ 1 → apart (y j + x i) (x j + y i) ≡ apart (y′ j + x′ i) (x′ j + y′ i)
+
   -- the squares of what d at i is from the d of each place before it
   abbrev pub crossing : ℕ → ℕ → ℕ
   crossing i j = one j * between (x j) (y j) (x i) (y i)
@@ -149,6 +153,10 @@ module _ (one x y : ℕ → ℕ) (counted : (i : ℕ) → Counted (one i) (x i) 
   pub schwarz : (N : ℕ) → square (apart (sumTo N y) (sumTo N x)) ≤ sumTo N one * sumTo N (squares x y)
   schwarz N = omega (arith, spread N)
 
+  -- the excess is those squares
+  excess-is : (N : ℕ) → excess one x y N ≡ sumTo N (crossings one x y)
+  excess-is N = omega (arith, spread N)
+
   -- where no difference is above b, the excess is at most (n × b)²
   pub excess-most : (N b : ℕ) → ((i : ℕ) → i < N → apart (y i) (x i) ≤ b) → excess one x y N ≤ square (sumTo N one * b)
   excess-most N b h =
@@ -173,7 +181,7 @@ module _ (one x y : ℕ → ℕ) (counted : (i : ℕ) → Counted (one i) (x i) 
       (lt-or-ge i j)
     where
       rest : sumTo N (crossings one x y) ≡ 0
-      rest = omega (arith, spread N)
+      rest = sym (excess-is N) ∙ e
 
       earlier : (i j : ℕ) → i < N → j < i → one i ≡ 1 → one j ≡ 1 → y j ⊖ x j ≡ y i ⊖ x i
       earlier i j p l a b =
@@ -182,26 +190,27 @@ module _ (one x y : ℕ → ℕ) (counted : (i : ℕ) → Counted (one i) (x i) 
           let met : apart (y j + x i) (x j + y i) ≡ 0 = square-none _ inner in
           ⊖-eq (y j) (x j) (y i) (x i) (omega arith)
 
-  -- and it is 0 there
-  pub equal-none : (N : ℕ) → AllEqual one x y N → excess one x y N ≡ 0
-  equal-none N h = omega (arith, spread N, sum-zero N (crossings one x y) row)
-    where
-      met : (i j : ℕ) → i < N → j < i → one i ≡ 1 → one j ≡ 1 → between (x j) (y j) (x i) (y i) ≡ 0
-      met i j p l a b =
-          let c = ⊖-cross (y j) (x j) (y i) (x i) (h j i (omega arith) p b a) in
-          let z : apart (y j + x i) (x j + y i) ≡ 0 = omega (arith, c) in
-          rw z
+-- the excess is told by how far d differs between each two of the places
+pub excess-same : (one x y x′ y′ : ℕ → ℕ) → ((i : ℕ) → Counted (one i) (x i) (y i)) → ((i : ℕ) → Counted (one i) (x′ i) (y′ i))
+    → (N : ℕ) → AsFar one x y x′ y′ N → excess one x y N ≡ excess one x′ y′ N
+excess-same one x y x′ y′ counted counted′ N h =
+    excess-is one x y counted N ∙ sum-ext N (crossings one x y) (crossings one x′ y′) row ∙ sym (excess-is one x′ y′ counted′ N)
+  where
+    -- what does not count may differ
+    where-counted : (i u v : ℕ) → (one i ≡ 1 → u ≡ v) → one i * u ≡ one i * v
+    where-counted i u v f = ⊎-elim (λ a. ap (λ (s : ℕ). one i * s) (f a)) (λ k. rw (k .0) (zero-mul u ∙ sym (zero-mul v))) (counted i)
 
-      term : (i j : ℕ) → i < N → j < i → one i ≡ 1 → crossing one x y i j ≡ 0
-      term i j p l a =
-          ⊎-elim
-          (λ (b : one j ≡ 1). rw b (omega (arith, met i j p l a b)))
-          (λ k. rw (k .0) (zero-mul (between (x j) (y j) (x i) (y i))))
-          (counted j)
+    row : (i : ℕ) → i < N → crossings one x y i ≡ crossings one x′ y′ i
+    row i p =
+        where-counted i _ _ (λ a. sum-ext i (crossing one x y i) (crossing one x′ y′ i)
+        (λ j l. where-counted j _ _ (λ b. ap square (h i j p (omega arith) a b))))
 
-      row : (i : ℕ) → i < N → crossings one x y i ≡ 0
-      row i p =
-          ⊎-elim
-          (λ (a : one i ≡ 1). rw a (omega (arith, sum-zero i (crossing one x y i) (λ j l. term i j p l a))))
-          (λ k. rw (k .0) (zero-mul (sumTo i (crossing one x y i))))
-          (counted i)
+-- so it is 0 where all differences are equal, as it is of x and y that are 0
+pub equal-none : (one x y : ℕ → ℕ) → ((i : ℕ) → Counted (one i) (x i) (y i)) → (N : ℕ) → AllEqual one x y N → excess one x y N ≡ 0
+equal-none one x y counted N h =
+    let zero : ℕ → ℕ = λ (i : ℕ). 0 in
+    let none : sumTo N one * sumTo N (squares zero zero) ≡ 0 = ap (λ (s : ℕ). sumTo N one * s) (sum-zero N (squares zero zero) (λ k l. refl)) ∙ mul-zero (sumTo N one) in
+    excess-same one x y zero zero counted (λ i. ⊎-elim (λ a. inl a) (λ k. inr (k .0, refl, refl)) (counted i)) N met ∙ omega (arith, none)
+  where
+    met : (i j : ℕ) → i < N → j < N → one i ≡ 1 → one j ≡ 1 → apart (y j + x i) (x j + y i) ≡ 0
+    met i j p q a b = let c = ⊖-cross (y j) (x j) (y i) (x i) (h j i q p b a) in omega (arith, c)
