@@ -38,6 +38,9 @@ variance-ranged P n m =
 pub variance-near : (P n : ℕ) → Measured P n → CloseTo (2 ^ 52) (variance P n) P (2 * (n * n))
 variance-near P n m = quotient-near P (2 * (n * n)) (variance-ranged P n m)
 
+pub variance-plain : (P n : ℕ) → Measured P n → T (plain (variance P n))
+variance-plain P n m = variance-near P n m .is-plain
+
 root-small : (P : ℕ) → P < 2 ^ 53 → root (2048 * P) < 2 ^ 32
 root-small P h = root-under (2048 * P) (2 ^ 32) (omega arith)
 

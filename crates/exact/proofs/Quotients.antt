@@ -8,7 +8,7 @@ use native.Mathlib.Omega.{arith}
 use lib.Dec.{T, lit≤, lit<}
 use lib.Pow.{pow-pos}
 use lib.Ieee.{Float, nan, inf, fin, binary64, prec, low, size, round, le, isNan, ofBits, toBits}
-use lib.Ieee.Bits.{ofBits-toBits}
+use lib.Ieee.Bits.{ofBits-toBits, toBits-ofBits, toBits-lt}
 use lib.Ieee.Exact.{HasValue}
 use lib.Ieee.Fits.{round-fits}
 use lib.Ieee.Order.{round-mono}
@@ -16,7 +16,7 @@ use lib.Ieee.Positive.{num, den, den-pos, value→cross}
 use lib.Ieee.Scale.{grid, overflow, round-val, round-same, normal-of-fraction}
 use borrow.Author.Tests.{lt-ltb, le-leb}
 use Rattle.exact.specs.Quotient.{quotient, floatZero, castable, quotientOrZero}
-use Rattle.exact.specs.Bound.{plain, CloseTo}
+use Rattle.exact.specs.Bound.{plain, CloseTo, Number}
 use Rattle.exact.proofs.Rounding.{Within, within-apart, apart-within, grid-within, within-value}
 
 -- the fractions that are rounded here
@@ -114,6 +114,15 @@ quotient-not-nan p q r = plain-not-nan (quotient p q) (quotient-close p q r .is-
 
 pub quotient-bits : (p q : ℕ) → ofBits binary64 (toBits binary64 (quotient p q)) ≡ quotient p q
 quotient-bits p q = ofBits-toBits binary64 (quotient p q) (round-fits binary64 false p q)
+
+pub quotient-number : (p q : ℕ) → Ranged p q → Number (quotient p q)
+quotient-number p q r = record {
+  is-plain = quotient-close p q r .is-plain;
+  pattern = toBits binary64 (quotient p q);
+  short = toBits-lt binary64 (quotient p q) (round-fits binary64 false p q);
+  read = quotient-bits p q;
+  sole = λ b l e. sym (toBits-ofBits binary64 b l (rw e (quotient-not-nan p q r))) ∙ ap (toBits binary64) e;
+}
 
 -- 0.0, as the code writes it
 pub zero-bits : ofBits binary64 0 ≡ floatZero

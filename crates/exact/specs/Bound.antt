@@ -1,15 +1,16 @@
--- Document 01, "What the promises have to settle": how far a float may be from an exact figure; and document 02, h: when a whole number has an exact float.
+-- Document 01, "What the promises have to settle": how far a float may be from an exact figure. Document 02, h: when a whole number has an exact float;
+-- and m: when one float is at most another.
 -- A float x is its whole significand times a power of two; num x / den x is its size as a fraction (0 / 1 where x is no such number).
-use Prim.Native.Nat.{ℕ, _+_, _-_, _*_, _≤_}
+use Prim.Native.Nat.{ℕ, _+_, _-_, _*_, _^_, _≤_, _<_}
 use mathlib.Core.Bool.{Bool, false, not}
 use mathlib.Core.Path.{_≡_}
 use lib.Dec.{T}
-use lib.Ieee.{Float, nan, inf, fin, binary64, ofInt}
+use lib.Ieee.{Float, nan, inf, fin, binary64, ofInt, le, ofBits}
 use lib.Ieee.Positive.{num, den}
 use lib.IntN.{pos}
 use Rattle.laws.specs.Signed.{apart}
 
--- x is a number, finite and not negative
+-- x is a number, finite and not negative: its sign is clear, so it is not −0 either
 abbrev pub plain : Float → Bool
 plain nan = false
 plain (inf s) = false
@@ -30,3 +31,21 @@ pub record NearRoot (x a d : ℕ) : Type 0 where
 pub record ExactFloat (n : ℕ) : Type 0 where
   pub is-plain : T (plain (ofInt binary64 (pos n)))
   pub same : num (ofInt binary64 (pos n)) ≡ n * den (ofInt binary64 (pos n))
+
+-- x is such a number, and one pattern of 64 bits is read as it, and no other
+pub record Number (x : Float) : Type 0 where
+  pub is-plain : T (plain x)
+  pub pattern : ℕ
+  pub short : pattern < 2 ^ 64
+  pub read : ofBits binary64 pattern ≡ x
+  pub sole : (b : ℕ) → b < 2 ^ 64 → ofBits binary64 b ≡ x → b ≡ pattern
+
+-- of two such numbers, x is at most y: by `<=` of IEEE 754, by which a program sorts, and by their values, with denominators cleared
+pub record AtMost (x y : Float) : Type 0 where
+  pub compared : T (le x y)
+  pub valued : num x * den y ≤ num y * den x
+
+-- of two such numbers, `<=` says that the value of x is at most that of y, and nothing else
+pub record ByValue (x y : Float) : Type 0 where
+  pub to-values : T (le x y) → num x * den y ≤ num y * den x
+  pub from-values : num x * den y ≤ num y * den x → T (le x y)
