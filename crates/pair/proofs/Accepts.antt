@@ -5,13 +5,13 @@ use mathlib.Core.Path.{_≡_, sym, _∙_}
 use native.Mathlib.Omega.{arith}
 use lib.Dec.{ltb}
 use lib.ListN.{length}
-use borrow.Author.Tests.{ltb-false}
+use borrow.Author.Tests.{ltb-false, le-ltb}
 use Rattle.laws.proofs.Squares.{excess-most}
 use Rattle.laws.proofs.Cases.{times-le}
 use Rattle.exact.proofs.Noises.{Measured}
 use Rattle.verdict.specs.Verdict.{refuseFirst}
 use Rattle.verdict.specs.declared.Verdict.the-variants as verdict
-use Rattle.verdict.proofs.Verdicts.{Test, Tabled, test, tabled, tabled-none, tabled-then, then-clear, unless}
+use Rattle.verdict.proofs.Verdicts.{Test, Tabled, test, tabled, tabled-none, tabled-then, then-clear, clear-then, unless, clear-unless}
 use Rattle.window.specs.Shape.{badSides, badScale, sitesOf}
 use Rattle.window.specs.View.{one, seen}
 use Rattle.window.proofs.Sides.{scale, sites-few}
@@ -21,7 +21,7 @@ use Rattle.refusals.proofs.Judges.{codesTest, samplesTest, mask-tabled}
 use Rattle.pair.specs.Figures.{spreadOf}
 use Rattle.pair.specs.Pair.{pairSpread, framesVerdict, pairVerdict}
 use Rattle.pair.specs.declared.Spread.{Spread}
-use Rattle.pair.proofs.Frames.{Readable, readable}
+use Rattle.pair.proofs.Frames.{Readable, readable, clear-frames}
 use Rattle.pair.proofs.Spreads.{counted, spread-is}
 
 module _ (w h full : ℕ) (mask first second : List ℕ) where
@@ -72,7 +72,10 @@ spread-greatest w h full mask first second r =
     omega (arith, spread-most w h full mask first second r, times-le (n * full) (n * full) (16384 * 4095) (16384 * 4095) side side)
 
 -- n and P within these bounds have floats that are near
-pub measured-at : (s : Spread) → (2 ≤ s .n) × (s .n ≤ 16384) × (s .p < 2 ^ 53) → Measured (s .p) (s .n)
+abbrev pub Measurable : Spread → Type 0
+Measurable s = Measured (s .p) (s .n)
+
+pub measured-at : (s : Spread) → (2 ≤ s .n) × (s .n ≤ 16384) × (s .p < 2 ^ 53) → Measurable s
 measured-at s bounds = record { exact = bounds .2; some = omega (arith, bounds .0); few = omega (arith, bounds .1) }
 
 -- what an accepted pair is
@@ -95,5 +98,10 @@ module _ {w h full : ℕ} {mask first second : List ℕ} where
         exact = omega (arith, spread-greatest w h full mask first second frames);
       }
 
-  pub measured : Accepted w h full mask first second → Measured (pairSpread w h mask first second .p) (pairSpread w h mask first second .n)
+  pub measured : Accepted w h full mask first second → Measurable (pairSpread w h mask first second)
   measured a = measured-at (pairSpread w h mask first second) (a .two, a .few, a .exact)
+
+  -- two frames that 1 to 6 let pass, with 2 surveyed sites, are accepted
+  pub clear-pair : Readable w h full mask first second → 2 ≤ pairSpread w h mask first second .n → pairVerdict w h full mask first second ≡ verdict.Clear
+  unfolding pairVerdict
+  clear-pair r two = clear-then (clear-frames w h full mask first second r) (clear-unless 7 0 (le-ltb _ 2 two))

@@ -1,18 +1,18 @@
 -- Refusals 1 to 6 of two frames, and what passes them.
 use Prim.Native.Nat.{ℕ, min}
 use mathlib.Core.List.{List}
-use mathlib.Core.Path.{_≡_}
+use mathlib.Core.Path.{_≡_, refl}
 use lib.ListN.{length}
 use Rattle.verdict.specs.Verdict.{_⨟_}
 use Rattle.verdict.specs.declared.Verdict.{Verdict}
 use Rattle.verdict.specs.declared.Verdict.the-variants as verdict
-use Rattle.verdict.proofs.Verdicts.{then-same, then-clear}
+use Rattle.verdict.proofs.Verdicts.{then-same, then-clear, clear-then}
 use Rattle.window.specs.Shape.{sitesOf}
 use Rattle.window.specs.Walk.{walked}
 use Rattle.window.specs.View.{seen}
 use Rattle.refusals.specs.Judge.{lengthOf, samplesOf, maskVerdict}
-use Rattle.refusals.proofs.Chains.{length-clear, samples-clear, samples-whole}
-use Rattle.refusals.proofs.Judges.{Framed, mask-clear}
+use Rattle.refusals.proofs.Chains.{length-clear, clear-length, samples-clear, clear-samples, samples-whole}
+use Rattle.refusals.proofs.Judges.{Framed, mask-clear, clear-mask}
 use Rattle.pair.specs.Pair.{framesVerdict}
 
 -- what two frames are that 1 to 6 do not refuse
@@ -53,3 +53,14 @@ module _ (w h full : ℕ) (mask first second : List ℕ) where
         of-first = record { of = masked .2; framed = both .0; range = samples-clear (sitesOf w h) full (seen mask first) (range .0) };
         of-second = record { of = masked .2; framed = both .1; range = samples-clear (sitesOf w h) full (seen mask second) (range .1) };
       }
+
+  -- and nothing else does
+  pub clear-frames : Readable w h full mask first second → framesVerdict w h full mask first second ≡ verdict.Clear
+  unfolding framesVerdict
+  clear-frames r =
+      let one = r .of-first in
+      let other = r .of-second in
+      clear-then
+      (clear-mask w h full mask (one .of) refl
+      (clear-then (clear-length (sitesOf w h) (length first) (one .framed)) (clear-length (sitesOf w h) (length second) (other .framed))))
+      (clear-then (clear-samples (sitesOf w h) full (seen mask first) (one .range)) (clear-samples (sitesOf w h) full (seen mask second) (other .range)))

@@ -4,3 +4,4 @@ pub mod Frames
 pub mod Accepts
 pub mod Answers
 pub mod Promises
+pub mod RankPromises
