@@ -42,7 +42,7 @@ edges = record {
 }
 
 pub beside : Beside
-unfolding firstTo greatestTo greatestIn sumTo sumIn sumBox tabulate shapeOf maskVerdict frameVerdict boxSum badSide badSides badScale sitesOf _⨟_ refuseIf refuseFirst seenAt seen one nearSum usedThreshold far foundAt markedAt foundCount findVerdict findAnswer findMask lineTotal stepOf tenAround standsOut deviation figuresOf badCount patternVerdict patternAnswer before after pooled defective markOf markAt linesVerdict linesBuffer
+unfolding round firstTo greatestTo greatestIn _⊖_ sumToℤ sumTo sumIn sumBox tabulate shapeOf maskVerdict frameVerdict boxSum badSide badSides badScale sitesOf _⨟_ refuseIf refuseFirst seenAt seen one root rootTo numerator spreadOf framesVerdict pairVerdict pairAnswer nearSum usedThreshold far foundAt markedAt foundCount findVerdict findAnswer findMask lineTotal stepOf tenAround standsOut deviation figuresOf badCount patternVerdict patternAnswer before after pooled defective markOf markAt linesVerdict linesBuffer
 beside = record {
   dark-column = refl;
   dark-row = refl;
@@ -50,6 +50,7 @@ beside = record {
   lone-96 = ((refl, refl), (refl, refl));
   lone-95 = ((refl, refl), (refl, refl));
   lone-101 = (refl, refl);
+  one-eighth = (refl, refl);
   met-unmarked = refl;
   met-marked = refl;
 }

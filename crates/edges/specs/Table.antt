@@ -106,6 +106,12 @@ pub record Beside : Type 0 where
   pub lone-95 : LonePassed 24 95 × LonePassed 0 95
   -- K7's window at threshold 0: found, since |101 × 4 − 293| = 111 ≥ 96 = 24 × 4
   pub lone-101 : LoneFound 0 101
+  -- document 02 m, why the noise is ranked only at equal n: one difference of 1 at two sites, and four of 1 at eight. Both exact variances are 1/8
+  -- (1/8 and 16/128), and so are their floats; the noise is 45/128, which is 180/512, and 181/512
+  pub one-eighth : (pairAnswer 2 2 1023 (0 ∷ 0 ∷ 1 ∷ 1 ∷ []) (all 4 100) (but 4 100 0 101)
+      ≡ pair.Measured (record { n = 2; p = 1; q = 8; r = 45; variance = fin false 1 (negsuc 2); noise = fin false 45 (negsuc 6) }))
+      × (pairAnswer 4 2 1023 (all 8 0) (all 8 100) (tabulate 8 (λ (i : ℕ). cond (ltb i 4) 101 100))
+      ≡ pair.Measured (record { n = 8; p = 16; q = 128; r = 181; variance = fin false 1 (negsuc 2); noise = fin false 181 (negsuc 8) }))
   -- a row met as often as the mirror meets it, itself twice: nine sites at 103 and two at 102 are not marked, ten and one are
   pub met-unmarked : linesBuffer rows 22 18 1023 (all 396 0) (raised 194) (all 36 0) ≡ all 36 0
   pub met-marked : linesBuffer rows 22 18 1023 (all 396 0) (raised 196) (all 36 0) ≡ but 36 0 4 1
