@@ -14,7 +14,7 @@ use Rattle.laws.specs.Sum.{sumTo}
 use Rattle.laws.specs.Signed.{_⊖_, apart}
 use Rattle.laws.proofs.Signeds.{⊖-sum, ⊖-squares, ⊖-square, ⊖-ge}
 use Rattle.laws.proofs.Sums.{Shifted}
-use Rattle.laws.proofs.Squares.{Counted, squares, excess, schwarz, excess-same, none-equal, equal-none}
+use Rattle.laws.proofs.Squares.{Counted, AsFar, squares, excess, schwarz, excess-same, none-equal, equal-none}
 use Rattle.laws.proofs.Cases.{times-le, true-or-false}
 use Rattle.window.specs.View.{surveyed, seenAt, one, seen}
 use Rattle.window.proofs.Views.{seen-in, seen-out, seen-is, one-is}
@@ -52,24 +52,26 @@ module _ (mask first second : List ℕ) (N : ℕ) where
   pub whole : pos (spreadOf N (one mask) (seen mask first) (seen mask second) .p) ≡ numerator N (sumTo N (one mask)) (difference (seen mask first) (seen mask second))
   whole = ap pos spread-is ∙ sym in-naturals
 
--- P is told by how far the differences are from each other, two by two: so it is the same of the frames exchanged
+-- P is told by how far the differences are from each other, two by two
+spread-same : (mask first second first′ second′ : List ℕ) (N : ℕ)
+    → AsFar (one mask) (seen mask first) (seen mask second) (seen mask first′) (seen mask second′) N
+    → spreadOf N (one mask) (seen mask first) (seen mask second) .p ≡ spreadOf N (one mask) (seen mask first′) (seen mask second′) .p
+spread-same mask first second first′ second′ N far =
+    spread-is mask first second N
+    ∙ excess-same (one mask) (seen mask first) (seen mask second) (seen mask first′) (seen mask second′) (counted mask first second) (counted mask first′ second′) N far
+    ∙ sym (spread-is mask first′ second′ N)
+
+-- so it is the same of the frames exchanged
 pub spread-swap : (mask first second : List ℕ) (N : ℕ)
     → spreadOf N (one mask) (seen mask second) (seen mask first) .p ≡ spreadOf N (one mask) (seen mask first) (seen mask second) .p
-spread-swap mask first second N =
-    spread-is mask second first N
-    ∙ excess-same (one mask) (seen mask second) (seen mask first) (seen mask first) (seen mask second) (counted mask second first) (counted mask first second) N
-    (λ i j p q a b. omega arith)
-    ∙ sym (spread-is mask first second N)
+spread-swap mask first second N = spread-same mask second first first second N (λ i j p q a b. omega arith)
 
 -- and where one constant is added to every sample that is seen of the first
 pub spread-shift : (mask first other second : List ℕ) (up down N : ℕ)
     → ((i : ℕ) → i < N → Shifted up down (one mask i) (seen mask first i) (seen mask other i))
     → spreadOf N (one mask) (seen mask other) (seen mask second) .p ≡ spreadOf N (one mask) (seen mask first) (seen mask second) .p
 spread-shift mask first other second up down N shift =
-    spread-is mask other second N
-    ∙ excess-same (one mask) (seen mask other) (seen mask second) (seen mask first) (seen mask second) (counted mask other second) (counted mask first second) N
-    (λ i j p q a b. omega (arith, rw a at (shift i p), rw b at (shift j q)))
-    ∙ sym (spread-is mask first second N)
+    spread-same mask other second first second N (λ i j p q a b. omega (arith, rw a at (shift i p), rw b at (shift j q)))
 
 -- P from the sums t of a walk
 module _ (mask first second : List ℕ) (N : ℕ) (t : Totals) (e : t ≡ totalsOf N (one mask) (seen mask first) (seen mask second)) where
