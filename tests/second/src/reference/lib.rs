@@ -8,6 +8,7 @@ pub mod job;
 pub mod lines;
 pub mod pair;
 pub mod pattern;
+pub mod ranking;
 pub mod raw;
 pub mod shared;
 pub mod sites;

@@ -8,6 +8,13 @@ pub struct Answer {
     pub figures: Vec<i128>,
 }
 
+/// What the reference and the library answered to one case.
+#[derive(Clone, Debug, PartialEq, Eq)]
+pub struct Answers {
+    pub expected: Answer,
+    pub found: Answer,
+}
+
 #[derive(Clone, Copy, Debug, PartialEq, Eq)]
 pub struct Refusal {
     pub number: u64,
