@@ -54,6 +54,18 @@ impl Pair {
     fn second(&mut self) -> &mut Lent<u16> {
         self.second.as_mut().expect("a second frame of its own")
     }
+
+    /// With the two frames exchanged. One buffer given twice is its own swap.
+    fn swapped(&self) -> Self {
+        let Some(second) = &self.second else {
+            return self.clone();
+        };
+        Pair {
+            first: Lent::new("first", second.to_vec()),
+            second: Some(Lent::new("second", self.first.to_vec())),
+            ..self.clone()
+        }
+    }
 }
 
 fn of_mask(shape: Shape, mask: Vec<u8>, dice: &mut Dice) -> Pair {
@@ -298,10 +310,7 @@ fn both_frames_above(tally: &mut Tally, dice: &mut Dice) {
         let (one, other) = (dice.below(shape.sites()), dice.below(shape.sites()));
         case.first[one.max(other)] = spoil::above(case.full_scale, dice);
         case.second()[one.min(other)] = spoil::above(case.full_scale, dice);
-        tally.run(case.clone());
-        let first = case.first.to_vec();
-        case.first = Lent::new("first", case.second().to_vec());
-        case.second = Some(Lent::new("second", first));
+        tally.run(case.swapped());
         tally.run(case);
     }
 }
