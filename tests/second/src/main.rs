@@ -61,7 +61,22 @@ fn run(call: &Call, options: &Options) -> Tally {
     tally
 }
 
-fn print(call: &Call, tally: &Tally, missing: &[u64]) {
+/// What the call's cases have to reach and did not.
+fn missing(call: &Call, tally: &Tally) -> Vec<String> {
+    let numbers = call
+        .required
+        .iter()
+        .filter(|number| !tally.numbers.contains_key(number))
+        .map(|number| format!("number {number} was not reached"));
+    let relations = call
+        .relations
+        .iter()
+        .filter(|relation| !tally.relations.contains_key(*relation))
+        .map(|relation| format!("no two cases were {relation}"));
+    numbers.chain(relations).collect()
+}
+
+fn print(call: &Call, tally: &Tally, missing: &[String]) {
     let accepted = tally.numbers.get(&0).copied().unwrap_or(0);
     let refused: Vec<String> = tally
         .numbers
@@ -75,8 +90,16 @@ fn print(call: &Call, tally: &Tally, missing: &[u64]) {
         call.name,
         refused.join(" ")
     );
-    for number in missing {
-        println!("  number {number} was not reached");
+    if !tally.relations.is_empty() {
+        let relations: Vec<String> = tally
+            .relations
+            .iter()
+            .map(|(relation, times)| format!("{relation} {times}"))
+            .collect();
+        println!("  two cases: {}", relations.join(", "));
+    }
+    for line in missing {
+        println!("  {line}");
     }
     for difference in &tally.shown {
         println!("{difference}");
@@ -100,12 +123,7 @@ fn main() -> ExitCode {
     let (mut cases, mut differences, mut missed) = (0, 0, 0);
     for call in CALLS {
         let tally = run(call, &options);
-        let missing: Vec<u64> = call
-            .required
-            .iter()
-            .copied()
-            .filter(|number| !tally.numbers.contains_key(number))
-            .collect();
+        let missing = missing(call, &tally);
         print(call, &tally, &missing);
         cases += tally.cases;
         differences += tally.differences;

@@ -11,14 +11,14 @@ use super::windows;
 use crate::library::{self, Lent};
 
 #[derive(Clone, Debug, PartialEq)]
-struct Pair {
-    width: usize,
-    height: usize,
-    full_scale: u64,
-    mask: Lent<u8>,
-    first: Lent<u16>,
+pub struct Pair {
+    pub width: usize,
+    pub height: usize,
+    pub full_scale: u64,
+    pub mask: Lent<u8>,
+    pub first: Lent<u16>,
     /// None where the first buffer is given twice.
-    second: Option<Lent<u16>>,
+    pub second: Option<Lent<u16>>,
 }
 
 impl Case for Pair {
@@ -51,12 +51,12 @@ const LEAST: Shape = Shape {
 };
 
 impl Pair {
-    fn second(&mut self) -> &mut Lent<u16> {
+    pub fn second(&mut self) -> &mut Lent<u16> {
         self.second.as_mut().expect("a second frame of its own")
     }
 
     /// With the two frames exchanged. One buffer given twice is its own swap.
-    fn swapped(&self) -> Self {
+    pub fn swapped(&self) -> Self {
         let Some(second) = &self.second else {
             return self.clone();
         };
@@ -68,7 +68,7 @@ impl Pair {
     }
 }
 
-fn of_mask(shape: Shape, mask: Vec<u8>, dice: &mut Dice) -> Pair {
+pub fn of_mask(shape: Shape, mask: Vec<u8>, dice: &mut Dice) -> Pair {
     let full_scale = windows::full_scale(dice);
     let first = windows::frame(&mask, full_scale, dice);
     let second = windows::frame(&mask, full_scale, dice);
@@ -82,12 +82,12 @@ fn of_mask(shape: Shape, mask: Vec<u8>, dice: &mut Dice) -> Pair {
     }
 }
 
-fn of_shape(shape: Shape, dice: &mut Dice) -> Pair {
+pub fn of_shape(shape: Shape, dice: &mut Dice) -> Pair {
     let mask = windows::mask(shape.sites(), dice);
     of_mask(shape, mask, dice)
 }
 
-fn legal(dice: &mut Dice) -> Pair {
+pub fn legal(dice: &mut Dice) -> Pair {
     of_shape(shapes::legal(dice), dice)
 }
 
@@ -127,7 +127,7 @@ pub fn pair_figures(tally: &mut Tally, dice: &mut Dice) {
     }
 }
 
-const SPOILERS: &[spoil::Spoiler<Pair>] = &[
+pub const SPOILERS: &[spoil::Spoiler<Pair>] = &[
     |case, dice| {
         let count = dice.below(2);
         let sites = case.mask.len();

@@ -3,12 +3,19 @@
 use std::collections::BTreeMap;
 use std::fmt::Debug;
 
-use reference::shared::Answer;
+use reference::ranking::Law;
+use reference::shared::{Answer, Answers};
 
 /// All inputs of one call: sides, parameters and lent buffers.
 pub trait Case: Clone + PartialEq + Debug {
     fn reference(&mut self) -> Answer;
     fn library(&mut self) -> Answer;
+}
+
+/// A case as the library left it, and what both programs answered.
+pub struct Asked<C> {
+    pub case: C,
+    pub answers: Answers,
 }
 
 const SHOWN: usize = 5;
@@ -18,6 +25,8 @@ pub struct Tally {
     pub differences: u64,
     /// How often the reference gave each number, 0 being an accepted call.
     pub numbers: BTreeMap<u64, u64>,
+    /// How often two cases were compared that stand in each relation.
+    pub relations: BTreeMap<&'static str, u64>,
     pub shown: Vec<String>,
 }
 
@@ -27,28 +36,60 @@ impl Tally {
             cases: 0,
             differences: 0,
             numbers: BTreeMap::new(),
+            relations: BTreeMap::new(),
             shown: vec![],
         }
     }
 
-    /// Compares the whole answer and every cell of every buffer; gives the case as the library left it.
-    pub fn run<C: Case>(&mut self, case: C) -> C {
+    /// Compares the whole answer and every cell of every buffer.
+    pub fn ask<C: Case>(&mut self, case: C) -> Asked<C> {
         let (mut expected, mut found) = (case.clone(), case.clone());
-        let expected_answer = expected.reference();
-        let found_answer = found.library();
+        let answers = Answers {
+            expected: expected.reference(),
+            found: found.library(),
+        };
         self.cases += 1;
-        *self.numbers.entry(expected_answer.number).or_insert(0) += 1;
-        if expected_answer != found_answer || expected != found {
-            self.differences += 1;
-            if self.shown.len() < SHOWN {
-                self.shown.push(format!(
-                    "  case     {case:?}\n  expected {expected_answer:?}\n  found    {found_answer:?}{}",
-                    first_difference(&expected, &found),
-                ));
-            }
+        *self.numbers.entry(answers.expected.number).or_insert(0) += 1;
+        if answers.expected != answers.found || expected != found {
+            self.differ(|| shown(&case, &answers) + &first_difference(&expected, &found));
         }
-        found
+        Asked {
+            case: found,
+            answers,
+        }
     }
+
+    /// As `ask`; gives the case alone.
+    pub fn run<C: Case>(&mut self, case: C) -> C {
+        self.ask(case).case
+    }
+
+    /// Counts two cases that stand in a relation; a law that their answers break is a difference.
+    pub fn compare<C: Case>(
+        &mut self,
+        relation: &'static str,
+        law: Law,
+        one: &Asked<C>,
+        other: &Asked<C>,
+    ) {
+        *self.relations.entry(relation).or_insert(0) += 1;
+        if let Err(broken) = law {
+            let [one, other] = [one, other].map(|asked| shown(&asked.case, &asked.answers));
+            self.differ(|| format!("  {relation}: {broken}\n{one}\n{other}"));
+        }
+    }
+
+    fn differ(&mut self, difference: impl FnOnce() -> String) {
+        self.differences += 1;
+        if self.shown.len() < SHOWN {
+            self.shown.push(difference());
+        }
+    }
+}
+
+fn shown<C: Case>(case: &C, answers: &Answers) -> String {
+    let Answers { expected, found } = answers;
+    format!("  case     {case:?}\n  expected {expected:?}\n  found    {found:?}")
 }
 
 fn first_difference<C: Case>(expected: &C, found: &C) -> String {
