@@ -147,11 +147,11 @@ uint64_t tip_unpack_raw10(size_t width, size_t height,
  *
  * These are the ranges of an accepted call; on a refusal all six numbers are 0.
  *
- * Cameras may be sorted by variance and noise, neither of which is ever a NaN, infinite or -0. Of accepted calls with
- * equal n, a greater p / q never gets a smaller variance or noise, and equal ones get the same six numbers, bit for
- * bit. With unequal n this holds of the variance alone: compare no noise. Exchanging first and second changes no
- * number of an accepted call; nor does one number added to every surveyed sample of either, if none leaves 0 to
- * full_scale.
+ * Cameras may be sorted by the variance or the noise of accepted calls; a refused call's 0 is no figure, so leave it
+ * out. Neither is ever a NaN, infinite or -0. With equal n, a greater p / q never gets a smaller variance or noise, and
+ * equal ones get the same six numbers, bit for bit. With unequal n this holds of the variance alone: do not compare
+ * noise then. Exchanging first and second changes no number of an accepted call. Nor does one constant added to every
+ * surveyed sample of one frame, or taken off, if none of them leaves 0 to full_scale.
  *
  * Refusals, in the order tested: 1; 2; 4 (mask, first or second); 5; 6 (all sites of first, then all of second);
  * 7 (fewer than 2 surveyed sites).

@@ -4,10 +4,11 @@ use crate::{native, Fraction, Refusal, Variance, Window};
 
 /// The figures of a pair of frames.
 ///
-/// Cameras may be sorted by the variance's figure and by the noise, neither of which is ever a NaN, infinite or -0. With
-/// equal `n`, a greater exact variance never gets a smaller figure or noise, and equal ones get the same figures, bit for
-/// bit. With unequal `n` this holds of the variance alone: compare no noise. Exchanging the two frames changes nothing;
-/// nor does one number added to every surveyed sample of either, if none leaves 0 to full scale.
+/// Cameras may be sorted by the variance's figure or by the noise. Neither is ever a NaN, infinite or -0. With equal
+/// `n`, a greater exact variance never gets a smaller figure or noise, and equal ones get the same numbers, bit for
+/// bit. With unequal `n` this holds of the variance alone: do not compare noise then. Exchanging the two frames changes
+/// none of these numbers. Nor does one constant added to every surveyed sample of one frame, or taken off, if none of
+/// them leaves 0 to full scale.
 #[derive(Debug, Clone, Copy, PartialEq)]
 pub struct PairFigures {
     /// How many sites are surveyed: 2 to 16384.

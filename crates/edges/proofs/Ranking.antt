@@ -1,11 +1,12 @@
 -- Document 02, m: buyers sort cameras by our floats. Among windows with equally many surveyed sites a greater exact variance never gets a smaller variance
 -- or noise float, and equal ones get equal figures; neither changes when the two frames are swapped, or when one constant is added to every surveyed sample
--- of a frame and none leaves 0 to full scale. Every call here is an accepted call of `pair_figures`. Its exact variance is P/Q, and Q is above 0; that P and Q
--- are those of document 01 is said by `exact` of Demand3. Two exact variances are compared by crossed products: P/Q ≤ P′/Q′ is P × Q′ ≤ P′ × Q.
+-- of a frame and none leaves 0 to full scale. Every call here is an accepted call of `pair_figures`. Its exact variance is P/Q, and Q is above 0.
+-- Two are compared by crossed products: P/Q ≤ P′/Q′ is P × Q′ ≤ P′ × Q. That n counts the surveyed sites, and that P and Q are those of document 01, is said by
+-- `counted` and `exact` of Demand3; that these are the numbers a caller gets, by `numbers` of Demand1.
 use Prim.Native.Nat.{ℕ, _*_, _≤_}
 use mathlib.Core.List.{List}
 use mathlib.Core.Path.{_≡_}
-use Rattle.exact.specs.Bound.{Number, AtMost, ByValue}
+use Rattle.exact.specs.Bound.{OnePattern, AtMost, ByValue}
 use Rattle.window.proofs.Views.{Drifted}
 use Rattle.pair.specs.Pair.{pairAnswer}
 use Rattle.pair.specs.declared.PairFigures.{PairFigures}
@@ -17,7 +18,7 @@ use Rattle.pair.proofs.RankPromises as pair
 pub record Ranked (a b : PairFigures) : Type 0 where
   -- at equal n: where the exact variance of a is at most that of b, so is its variance float, and so is its noise float
   pub rank : a .n ≡ b .n → a .p * b .q ≤ b .p * a .q → AtMost (a .variance) (b .variance) × AtMost (a .noise) (b .noise)
-  -- at equal n: where the exact variances are equal, so are all six numbers, the floats bit for bit (by `numbers`)
+  -- at equal n: where the exact variances are equal, so are all six numbers, the floats bit for bit (by `one-pattern`)
   pub equal : a .n ≡ b .n → a .p * b .q ≡ b .p * a .q → a ≡ b
   -- at any two n: of the variance float alone both hold
   pub variance-rank : a .p * b .q ≤ b .p * a .q → AtMost (a .variance) (b .variance)
@@ -29,7 +30,7 @@ pub record Ranking : Type 0 where
   -- any two answers are ranked so
   pub ranked : (a b : PairFigures) → Answered a → Answered b → Ranked a b
   -- both floats of an answer are numbers, finite and not negative, each with one pattern of bits
-  pub numbers : (a : PairFigures) → Answered a → Number (a .variance) × Number (a .noise)
+  pub one-pattern : (a : PairFigures) → Answered a → OnePattern (a .variance) × OnePattern (a .noise)
   -- the two frames swapped are accepted exactly where they were, and then the answer is the same, all six numbers
   pub swap : (w h full : ℕ) (mask first second : List ℕ) (figures : PairFigures)
       → (pairAnswer w h full mask first second ≡ Measured figures → pairAnswer w h full mask second first ≡ Measured figures)
@@ -49,7 +50,7 @@ ranking = record {
     variance-equal = pair.variance-equal x y;
     by-values = pair.by-values x y;
   };
-  numbers = λ a x. pair.numbers x;
+  one-pattern = λ a x. pair.one-pattern x;
   swap = λ w h full mask first second figures. (pair.swap w h full mask first second figures, pair.swap w h full mask second first figures);
   shift = λ w h full up down mask frame other drifted kept figures.
       (pair.shift-first w h full mask up down frame other drifted kept figures, pair.shift-second w h full mask up down frame other drifted kept figures);

@@ -16,7 +16,7 @@ use lib.Ieee.Positive.{num, den, den-pos, value→cross}
 use lib.Ieee.Scale.{grid, overflow, round-val, round-same, normal-of-fraction}
 use borrow.Author.Tests.{lt-ltb, le-leb}
 use Rattle.exact.specs.Quotient.{quotient, floatZero, castable, quotientOrZero}
-use Rattle.exact.specs.Bound.{plain, CloseTo, Number}
+use Rattle.exact.specs.Bound.{plain, CloseTo, OnePattern}
 use Rattle.exact.proofs.Rounding.{Within, within-apart, apart-within, grid-within, within-value}
 
 -- the fractions that are rounded here
@@ -115,8 +115,8 @@ quotient-not-nan p q r = plain-not-nan (quotient p q) (quotient-close p q r .is-
 pub quotient-bits : (p q : ℕ) → ofBits binary64 (toBits binary64 (quotient p q)) ≡ quotient p q
 quotient-bits p q = ofBits-toBits binary64 (quotient p q) (round-fits binary64 false p q)
 
-pub quotient-number : (p q : ℕ) → Ranged p q → Number (quotient p q)
-quotient-number p q r = record {
+pub quotient-pattern : (p q : ℕ) → Ranged p q → OnePattern (quotient p q)
+quotient-pattern p q r = record {
   is-plain = quotient-close p q r .is-plain;
   pattern = toBits binary64 (quotient p q);
   short = toBits-lt binary64 (quotient p q) (round-fits binary64 false p q);

@@ -28,7 +28,7 @@ module _ (P n P′ n′ : ℕ) (m : Measured P n) (m′ : Measured P′ n′) wh
         at-most (noise P n) (noise P′ n′) (noise-plain P n m) (noise-plain P′ n′ m′)
         (rw as-many (noise-mono P P′ n′ (m′ .some) (numerators h)))
 
--- so equal variances have one P
+-- so at as many sites equal variances have one P
 pub one-numerator : (P n P′ n′ : ℕ) → Measured P n → Measured P′ n′ → n ≡ n′ → P * (2 * (n′ * n′)) ≡ P′ * (2 * (n * n)) → P ≡ P′
 one-numerator P n P′ n′ m m′ e h =
     le-antisymm (numerators P n P′ n′ m m′ e (le-of-eq h)) (numerators P′ n′ P n m′ m (sym e) (le-of-eq (sym h)))

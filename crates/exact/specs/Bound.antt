@@ -1,5 +1,5 @@
 -- Document 01, "What the promises have to settle": how far a float may be from an exact figure. Document 02, h: when a whole number has an exact float;
--- and m: when one float is at most another.
+-- and m: when one float is at most another, and that one pattern of bits is read as it.
 -- A float x is its whole significand times a power of two; num x / den x is its size as a fraction (0 / 1 where x is no such number).
 use Prim.Native.Nat.{ℕ, _+_, _-_, _*_, _^_, _≤_, _<_}
 use mathlib.Core.Bool.{Bool, false, not}
@@ -32,15 +32,15 @@ pub record ExactFloat (n : ℕ) : Type 0 where
   pub is-plain : T (plain (ofInt binary64 (pos n)))
   pub same : num (ofInt binary64 (pos n)) ≡ n * den (ofInt binary64 (pos n))
 
--- x is such a number, and one pattern of 64 bits is read as it, and no other
-pub record Number (x : Float) : Type 0 where
+-- x is a number, finite and not negative, and one pattern of 64 bits is read as it, and no other
+pub record OnePattern (x : Float) : Type 0 where
   pub is-plain : T (plain x)
   pub pattern : ℕ
   pub short : pattern < 2 ^ 64
   pub read : ofBits binary64 pattern ≡ x
   pub sole : (b : ℕ) → b < 2 ^ 64 → ofBits binary64 b ≡ x → b ≡ pattern
 
--- of two such numbers, x is at most y: by `<=` of IEEE 754, by which a program sorts, and by their values, with denominators cleared
+-- of two numbers that are finite and not negative, x is at most y: by `<=` of IEEE 754, by which a program sorts, and by their values, with denominators cleared
 pub record AtMost (x y : Float) : Type 0 where
   pub compared : T (le x y)
   pub valued : num x * den y ≤ num y * den x

@@ -153,7 +153,7 @@ module _ (one x y : ℕ → ℕ) (counted : (i : ℕ) → Counted (one i) (x i) 
   pub schwarz : (N : ℕ) → square (apart (sumTo N y) (sumTo N x)) ≤ sumTo N one * sumTo N (squares x y)
   schwarz N = omega (arith, spread N)
 
-  -- the excess is those squares
+  -- the excess is the sum of those squares
   excess-is : (N : ℕ) → excess one x y N ≡ sumTo N (crossings one x y)
   excess-is N = omega (arith, spread N)
 

@@ -71,7 +71,7 @@ spread-greatest w h full mask first second r =
     let side : n * full ≤ 16384 * 4095 = times-le n full 16384 4095 (surveyed-most w h mask) (scale full (r .of-first .of .scaled) .high) in
     omega (arith, spread-most w h full mask first second r, times-le (n * full) (n * full) (16384 * 4095) (16384 * 4095) side side)
 
--- n and P within these bounds have floats that are near
+-- n and P are within the bounds in which floats are near
 abbrev pub Measurable : Spread → Type 0
 Measurable s = Measured (s .p) (s .n)
 
@@ -101,7 +101,7 @@ module _ {w h full : ℕ} {mask first second : List ℕ} where
   pub measured : Accepted w h full mask first second → Measurable (pairSpread w h mask first second)
   measured a = measured-at (pairSpread w h mask first second) (a .two, a .few, a .exact)
 
-  -- two frames that 1 to 6 let pass, with 2 surveyed sites, are accepted
+  -- two frames that 1 to 6 let pass, with 2 surveyed sites or more, are accepted
   pub clear-pair : Readable w h full mask first second → 2 ≤ pairSpread w h mask first second .n → pairVerdict w h full mask first second ≡ verdict.Clear
   unfolding pairVerdict
   clear-pair r two = clear-then (clear-frames w h full mask first second r) (clear-unless 7 0 (le-ltb _ 2 two))

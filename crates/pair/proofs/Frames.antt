@@ -54,7 +54,7 @@ module _ (w h full : ℕ) (mask first second : List ℕ) where
         of-second = record { of = masked .2; framed = both .1; range = samples-clear (sitesOf w h) full (seen mask second) (range .1) };
       }
 
-  -- and nothing else does
+  -- and frames that are so pass 1 to 6
   pub clear-frames : Readable w h full mask first second → framesVerdict w h full mask first second ≡ verdict.Clear
   unfolding framesVerdict
   clear-frames r =

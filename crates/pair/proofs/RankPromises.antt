@@ -5,8 +5,8 @@ use mathlib.Core.Path.{_≡_, sym, ap, _∙_}
 use native.Mathlib.Omega.{arith}
 use lib.ListN.{length}
 use Rattle.laws.specs.Sum.{sumTo}
-use Rattle.exact.specs.Bound.{Number, AtMost, ByValue}
-use Rattle.exact.proofs.Quotients.{quotient-number}
+use Rattle.exact.specs.Bound.{OnePattern, AtMost, ByValue}
+use Rattle.exact.proofs.Quotients.{quotient-pattern}
 use Rattle.exact.proofs.Noises.{variance-ranged, noise-ranged}
 use Rattle.exact.proofs.Orders.{by-value}
 use Rattle.exact.proofs.Ranks as ranks
@@ -49,16 +49,16 @@ module _ {a : PairFigures} (x : Answered a) where
   are : a ≡ figuresOf from
   are = was .1
 
-  -- numbers: each float is a number, finite and not negative, with one pattern of bits: so equal ones are equal bit for bit
-  pub numbers : Number (a .variance) × Number (a .noise)
-  numbers = rw are (quotient-number _ _ (variance-ranged _ _ within), quotient-number _ _ (noise-ranged _ _ within))
+  -- one-pattern: each float is a number, finite and not negative, and has one pattern of bits: so equal ones are equal bit for bit
+  pub one-pattern : OnePattern (a .variance) × OnePattern (a .noise)
+  one-pattern = rw are (quotient-pattern _ _ (variance-ranged _ _ within), quotient-pattern _ _ (noise-ranged _ _ within))
 
 module _ {a b : PairFigures} (x : Answered a) (y : Answered b) where
   -- by-values: `<=` of two variance floats is the order of their values, and so is that of two noise floats
   pub by-values : ByValue (a .variance) (b .variance) × ByValue (a .noise) (b .noise)
   by-values =
-      let u = numbers x in
-      let v = numbers y in
+      let u = one-pattern x in
+      let v = one-pattern y in
       (by-value _ _ (u .0 .is-plain) (v .0 .is-plain), by-value _ _ (u .1 .is-plain) (v .1 .is-plain))
 
   -- variance-rank: where the one exact variance, P/Q, is at most the other, so is its float, whatever the two n
@@ -85,7 +85,7 @@ module _ {a b : PairFigures} (x : Answered a) (y : Answered b) where
 
 -- ---- of one accepted call, and another with the same window, full scale and mask
 module _ (w h full : ℕ) (mask : List ℕ) where
-  -- whose frames 1 to 6 let pass and have the same P
+  -- where 1 to 6 let its frames pass, and their P is the same, so is the answer
   alike : (first second first′ second′ : List ℕ) (figures : PairFigures) → pairAnswer w h full mask first second ≡ Measured figures
       → Readable w h full mask first′ second′ → pairSpread w h mask first′ second′ .p ≡ pairSpread w h mask first second .p
       → pairAnswer w h full mask first′ second′ ≡ Measured figures

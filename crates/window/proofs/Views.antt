@@ -72,7 +72,7 @@ seen-counted mask frame B i = by (surveyed (getD mask i 0))
 abbrev pub Offset : ℕ → ℕ → List ℕ → List ℕ → List ℕ → Type 0
 Offset up down mask f g = (i : ℕ) → i < length mask → surveyed (getD mask i 0) ≡ true → getD g i 0 + down ≡ getD f i 0 + up
 
--- so of two frames of one length, and no surveyed sample of g has left 0 to full scale: samples are whole numbers from 0
+-- so of two frames of one length, and no surveyed sample of g has left 0 to full scale (below 0 there is none)
 pub record Drifted (up down full : ℕ) (mask f g : List ℕ) : Type 0 where
   pub long : length g ≡ length f
   pub offset : Offset up down mask f g
