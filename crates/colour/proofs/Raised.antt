@@ -3,12 +3,12 @@ use Prim.Native.Nat.{ℕ, _+_, _*_, _≤_, _<_}
 use mathlib.Core.Bool.{true}
 use mathlib.Core.List.{List}
 use mathlib.Core.Path.{_≡_, refl, sym, ap, _∙_}
-use native.Mathlib.Nat.{zero-mul}
 use native.Mathlib.Omega.{arith}
 use lib.Dec.{ltb}
 use lib.ListN.{length, getD}
 use borrow.Author.Tests.{le-ltb}
 use Rattle.laws.proofs.Firsts.{first-ext}
+use Rattle.laws.proofs.Sums.{Shifted}
 use Rattle.verdict.specs.Verdict.{_⨟_, refuseIf, refuseFirst}
 use Rattle.verdict.specs.declared.Verdict.{Verdict}
 use Rattle.verdict.proofs.Verdicts.{then-same}
@@ -18,7 +18,8 @@ use Rattle.window.specs.View.{surveyed, above, seen, one}
 use Rattle.window.proofs.Sides.{Sides}
 use Rattle.window.proofs.Views.{seen-most, seen-shift}
 use Rattle.refusals.specs.Judge.{samplesOf, frameVerdict}
-use Rattle.plane.proofs.Planes.{box-above}
+use Rattle.plane.specs.Plane.{siteAt}
+use Rattle.plane.proofs.Planes.{site-in, box-shifted}
 use Rattle.colour.specs.Bayer.{mosaicOf}
 use Rattle.colour.specs.Centre.{centreOf, centreSums, someEmpty}
 use Rattle.colour.specs.Colour.{ratioOf, centresSeen, lentVerdict, centresVerdict, colourVerdict, colourAnswer}
@@ -28,8 +29,8 @@ use Rattle.colour.proofs.Figures.{same-total, same-ratio}
 
 module _ (w h full black order d : ℕ) (mask frame brighter : List ℕ) (long : length brighter ≡ length frame) (dark : black + d ≤ full)
     (each : (i : ℕ) → i < sitesOf w h → surveyed (getD mask i 0) ≡ true → (getD brighter i 0 ≡ getD frame i 0 + d) × (getD brighter i 0 ≤ full)) where
-  lifted : (i : ℕ) → i < sitesOf w h → seen mask brighter i ≡ seen mask frame i + d * one mask i
-  lifted i l = omega (arith, seen-shift mask frame brighter d 0 i (λ t. omega (arith, each i l t .0)), zero-mul (one mask i))
+  lifted : (i : ℕ) → i < sitesOf w h → Shifted d 0 (one mask i) (seen mask frame i) (seen mask brighter i)
+  lifted i l = seen-shift mask frame brighter d 0 i (λ t. omega (arith, each i l t .0))
 
   -- neither frame has a surveyed sample above full scale
   in-scale : (i : ℕ) → i < sitesOf w h → above full (seen mask brighter) i ≡ above full (seen mask frame) i
@@ -48,8 +49,9 @@ module _ (w h full black order d : ℕ) (mask frame brighter : List ℕ) (long :
         → centreSums w h (seen mask brighter) (one mask) plane .total
         ≡ centreSums w h (seen mask frame) (one mask) plane .total + d * centreSums w h (seen mask frame) (one mask) plane .count
     totals plane =
-        box-above w h plane (centreOf w h) d (one mask) (seen mask frame) (seen mask brighter)
-        (λ i l. lifted i (omega (arith, legal .sites)))
+        let shifted = box-shifted w h plane (centreOf w h) d 0 (one mask) (seen mask frame) (seen mask brighter)
+        (λ u v p q. lifted (siteAt w plane u v) (omega (arith, site-in w h plane u p v q, legal .sites))) in
+        omega (arith, shifted)
 
     ratios : (plane : ℕ)
         → ratioOf (black + d) (centreSums w h (seen mask brighter) (one mask) plane) (centresSeen w h order mask brighter .gr)

@@ -9,6 +9,7 @@ use native.Mathlib.Omega.{arith}
 use lib.Arith.{digits-lt}
 use lib.ListN.{length, getD}
 use Rattle.laws.specs.Table.{tabulate}
+use Rattle.laws.proofs.Sums.{Shifted}
 use Rattle.laws.proofs.Tables.{getD-tabulate, tabulate-ext}
 use Rattle.laws.proofs.Sole.{Sole, sole}
 use Rattle.verdict.specs.declared.Verdict.the-variants as verdict
@@ -18,13 +19,13 @@ use Rattle.window.specs.View.{surveyed, seen, one}
 use Rattle.window.proofs.Views.{Agree, same-view, Offset, seen-shift}
 use Rattle.refusals.specs.Judge.{frameVerdict}
 use Rattle.plane.specs.Plane.{siteAt}
-use Rattle.plane.proofs.Planes.{site-in}
+use Rattle.plane.proofs.Planes.{site-in, box-shifted}
 use Rattle.lines.specs.Lines.{Lines, rows, columns, markOf, lineSum, markAt}
 use Rattle.lines.specs.Marks.{linesVerdict, linesAnswer, paperOf, linesPaper, linesBuffer}
 use Rattle.lines.specs.declared.Marked.the-variants.{Done}
 use Rattle.lines.proofs.Pools.{mark-line}
 use Rattle.lines.proofs.Marking.{Accepted, tests, table, accepted, accepted-is, done-clear}
-use Rattle.lines.proofs.Shifts.{mark-shift, none-far, none-surveyed, zero-or-one, blank-line, line-shift}
+use Rattle.lines.proofs.Shifts.{mark-shift, none-far, none-surveyed, zero-or-one, blank-line}
 use Rattle.lines.proofs.Turns.{turned, turnedPlane, turned-mark, turned-accepted}
 
 module _ (lines : ℕ → ℕ → Lines) (w h full : ℕ) (mask frame marks : List ℕ) where
@@ -97,7 +98,8 @@ module _ (lines : ℕ → ℕ → Lines) (w h full : ℕ) (mask frame marks : Li
           let n = lines w h .count in
           let counts : ℕ → ℕ = lineSum (lines w h) w h plane (one mask) in
           let totals : ℕ → ℕ = lineSum (lines w h) w h plane (seen mask frame) in
-          let grown = line-shift (lines w h) w h plane v 0 (one mask) (seen mask []) (seen mask frame)
+          let grown : (m : ℕ) → Shifted v 0 (counts m) (lineSum (lines w h) w h plane (seen mask []) m) (totals m) =
+          λ m. box-shifted w h plane (lines w h .line m) v 0 (one mask) (seen mask []) (seen mask frame)
           (λ y x p q. seen-shift mask [] frame v 0 (siteAt w plane y x) (λ s. omega (arith, same y x p q s))) in
           marked-by
           ∙ sym (mark-shift n v 0 l (fits .nine) below counts (λ (m : ℕ). 0) totals (λ m b. omega (arith, grown m, blank-line (lines w h) w h plane mask m)))
@@ -114,9 +116,9 @@ module _ (lines : ℕ → ℕ → Lines) (w h full : ℕ) (mask frame marks : Li
       let nine = fit .nine in
       written p
       ∙ tabulate-ext (length marks) _ _ (λ i l. mark-shift n up down (i % n) nine (mod-lt i (omega arith)) _ _ _
-      (λ m b. line-shift (lines w h) w h (i / n) up down (one mask) (seen mask frame) (seen mask other)
+      (λ m b. box-shifted w h (i / n) (lines w h .line m) up down (one mask) (seen mask frame) (seen mask other)
       (λ y x low in-row. seen-shift mask frame other up down (siteAt w (i / n) y x)
-      (shift (siteAt w (i / n) y x) (omega (arith, site-in w h (i / n) y low x in-row, fit .lent .of .masked, fit .legal .sites)))) m))
+      (shift (siteAt w (i / n) y x) (omega (arith, site-in w h (i / n) y low x in-row, fit .lent .of .masked, fit .legal .sites))))))
       ∙ accepted-is lines w h full mask other marks (done-clear lines w h full mask other (length marks) q) .1 .1
 
 -- the mark of column l of plane (a,b) is the mark of row l of plane (b,a) of the turned window, which is accepted too

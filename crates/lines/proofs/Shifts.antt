@@ -1,5 +1,5 @@
 -- Why a constant added to every surveyed sample changes no mark: s and S grow by it c and C times, so s × C and S × c grow alike.
-use Prim.Native.Nat.{ℕ, _+_, _*_, _/_, _<_, _≤_}
+use Prim.Native.Nat.{ℕ, _+_, _*_, _<_, _≤_}
 use mathlib.Core.Bool.{Bool, true, false, cond, _&&_}
 use mathlib.Core.List.{List, []}
 use mathlib.Core.Logic.{_⊎_, inl, inr}
@@ -10,9 +10,8 @@ use lib.Dec.{ltb}
 use borrow.Author.Tests.{le-ltb}
 use Rattle.laws.specs.Sum.{sumTo, sumIn}
 use Rattle.laws.specs.Signed.{apart}
-use Rattle.laws.proofs.Sums.{Shifted, in-shift, box-shift}
+use Rattle.laws.proofs.Sums.{Shifted, in-shift}
 use Rattle.window.specs.View.{seen, one}
-use Rattle.plane.specs.Plane.{siteAt, boxSum}
 use Rattle.plane.proofs.Planes.{box-at-most, seen-scaled}
 use Rattle.lines.specs.Lines.{Lines, before, after, pooled, defective, markOf, lineSum}
 use Rattle.lines.proofs.Pools.{before-in, after-in}
@@ -78,12 +77,3 @@ blank-line lines w h plane mask l =
       box-at-most w h plane (lines .line l) 0 (one mask) (seen mask []) (λ i l. seen-scaled mask [] 0 (λ k. omega arith) i),
       zero-mul (lineSum lines w h plane (one mask) l),
     )
-
--- and the sums of lines grow by it as often as their sites are counted
-pub line-shift : (lines : Lines) (w h plane up down : ℕ) (ones f g : ℕ → ℕ)
-    → ((u v : ℕ) → u < h / 2 → v < w / 2 → Shifted up down (ones (siteAt w plane u v)) (f (siteAt w plane u v)) (g (siteAt w plane u v)))
-    → (l : ℕ) → Shifted up down (lineSum lines w h plane ones l) (lineSum lines w h plane f l) (lineSum lines w h plane g l)
-unfolding boxSum
-line-shift lines w h plane up down ones f g shift l =
-    box-shift _ _ _ _ (λ (u v : ℕ). f (siteAt w plane u v)) (λ (u v : ℕ). g (siteAt w plane u v)) up down (λ (u v : ℕ). ones (siteAt w plane u v))
-    (λ u v p q s t. shift u v (omega arith) (omega arith))

@@ -2,13 +2,13 @@
 use Prim.Native.Nat.{ℕ, suc, _+_, _-_, _*_, _/_, _%_, _<_, _≤_, min}
 use mathlib.Core.List.{List}
 use mathlib.Core.Path.{_≡_, sym, ap, ap₂, _∙_}
-use native.Mathlib.Nat.{le-trans, zero-mul, suc-mul, add-mul, mul-comm, mul-assoc, mul-le-mul, mul-le-mul-right, div-add-mod'}
+use native.Mathlib.Nat.{le-trans, suc-mul, add-mul, mul-comm, mul-assoc, mul-le-mul, mul-le-mul-right, div-add-mod'}
 use native.Mathlib.Omega.{arith}
 use lib.Arith.{digits-div, digits-mod}
 use lib.ListN.{length, getD}
 use borrow.Author.Tests.{eq-eqb, ne-eqb}
 use Rattle.laws.specs.Sum.{sumBox}
-use Rattle.laws.proofs.Sums.{box-ext, box-scaled, box-le, box-shift, box-cut, box-turned}
+use Rattle.laws.proofs.Sums.{Shifted, box-ext, box-scaled, box-le, box-shift, box-cut, box-turned}
 use Rattle.window.specs.Shape.{sitesOf}
 use Rattle.window.specs.Walk.{walked}
 use Rattle.window.specs.View.{seen, one}
@@ -95,16 +95,14 @@ module _ (w h plane : ℕ) (within : PlaneBox) where
   box-at-most B f g below =
       box-scaled _ _ _ _ _ _ B (λ u v p q s t. below (siteAt w plane u v) (site-in w h plane u (omega arith) v (omega arith)))
 
-  -- a view that is at every site d times another above a third
-  pub box-above : (d : ℕ) (e f g : ℕ → ℕ) → ((i : ℕ) → i < h * w → g i ≡ f i + d * e i)
-      → boxSum w h plane within g ≡ boxSum w h plane within f + d * boxSum w h plane within e
+  -- views that are shifted at every site of the plane have sums that are
+  pub box-shifted : (up down : ℕ) (c f g : ℕ → ℕ)
+      → ((u v : ℕ) → u < h / 2 → v < w / 2 → Shifted up down (c (siteAt w plane u v)) (f (siteAt w plane u v)) (g (siteAt w plane u v)))
+      → Shifted up down (boxSum w h plane within c) (boxSum w h plane within f) (boxSum w h plane within g)
   unfolding boxSum
-  box-above d e f g raised =
-      let at : (ℕ → ℕ) → ℕ → ℕ → ℕ = λ view u v. view (siteAt w plane u v) in
-      let shifted =
-      box-shift (within .top) (min (within .bottom) (h / 2)) (within .left) (min (within .right) (w / 2)) (at f) (at g) d 0 (at e)
-      (λ u v p q s t. omega (arith, raised (siteAt w plane u v) (site-in w h plane u (omega arith) v (omega arith)), zero-mul (at e u v))) in
-      omega (arith, shifted, zero-mul (sumBox (within .top) (min (within .bottom) (h / 2)) (within .left) (min (within .right) (w / 2)) (at e)))
+  box-shifted up down c f g shift =
+      box-shift _ _ _ _ (λ (u v : ℕ). f (siteAt w plane u v)) (λ (u v : ℕ). g (siteAt w plane u v)) up down (λ (u v : ℕ). c (siteAt w plane u v))
+      (λ u v p q s t. shift u v (omega arith) (omega arith))
 
   -- a view that is nowhere above 1 adds up to no more than the box has sites
   pub box-few : (f : ℕ → ℕ) → ((i : ℕ) → f i ≤ 1) → boxSum w h plane within f ≤ (within .bottom - within .top) * (within .right - within .left)
