@@ -58,6 +58,7 @@ pub const CALLS: &[Call] = &[
             "shifted up",
             "swapped",
             "swapped and refused",
+            "swapped from one buffer",
         ],
         round: ranking::ranking_of_pairs,
     },

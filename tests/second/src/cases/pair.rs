@@ -55,11 +55,9 @@ impl Pair {
         self.second.as_mut().expect("a second frame of its own")
     }
 
-    /// With the two frames exchanged. One buffer given twice is its own swap.
+    /// With the two frames exchanged, in two buffers also where one was given twice.
     pub fn swapped(&self) -> Self {
-        let Some(second) = &self.second else {
-            return self.clone();
-        };
+        let second = self.second.as_ref().unwrap_or(&self.first);
         Pair {
             first: Lent::new("first", second.to_vec()),
             second: Some(Lent::new("second", self.first.to_vec())),

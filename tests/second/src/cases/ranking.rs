@@ -187,7 +187,8 @@ fn of_equal_count(n: usize, dice: &mut Dice) -> Vec<Pair> {
     cases
 }
 
-/// Accepted pairs, one buffer given twice, and any two reasons to refuse.
+/// Pairs that are mostly accepted; one buffer given twice, beside its frame in two buffers; pairs
+/// spoiled in one way or in two.
 fn swaps(tally: &mut Tally, dice: &mut Dice) {
     for &shape in shapes::GREAT {
         swap(tally, pair::of_shape(shape, dice));
@@ -213,9 +214,10 @@ fn swaps(tally: &mut Tally, dice: &mut Dice) {
 fn swap(tally: &mut Tally, case: Pair) {
     let other = tally.ask(case.swapped());
     let one = tally.ask(case);
-    let relation = match one.answers.expected.number {
-        0 => "swapped",
-        _ => "swapped and refused",
+    let relation = match one.case.second {
+        _ if one.answers.expected.number != 0 => "swapped and refused",
+        None => "swapped from one buffer",
+        Some(_) => "swapped",
     };
     let law = ranking::swapped(&one.answers.found, &other.answers.found);
     tally.compare(relation, law, &one, &other);
