@@ -75,7 +75,9 @@ fn of_differences(differences: &[i64], dice: &mut Dice) -> Pair {
     case
 }
 
+/// Two accepted pairs: of others the law asks nothing.
 fn rank(tally: &mut Tally, one: &Asked<Pair>, other: &Asked<Pair>) {
+    assert!(one.accepted() && other.accepted());
     let relation = ranking::relation(&one.answers.expected, &other.answers.expected);
     let law = ranking::ranked(&one.answers, &other.answers);
     tally.compare(relation, law, one, other);
@@ -215,7 +217,7 @@ fn swap(tally: &mut Tally, case: Pair) {
     let other = tally.ask(case.swapped());
     let one = tally.ask(case);
     let relation = match one.case.second {
-        _ if one.answers.expected.number != 0 => "swapped and refused",
+        _ if !one.accepted() => "swapped and refused",
         None => "swapped from one buffer",
         Some(_) => "swapped",
     };
@@ -299,6 +301,7 @@ fn constants(case: &Pair, in_first: bool, dice: &mut Dice) -> Vec<i64> {
     constants
 }
 
+/// An accepted pair, by a constant that keeps it accepted: of others the law asks nothing.
 fn shift(
     tally: &mut Tally,
     before: &Asked<Pair>,
@@ -307,6 +310,7 @@ fn shift(
     dice: &mut Dice,
 ) -> Asked<Pair> {
     let after = tally.ask(shifted(&before.case, in_first, constant, dice));
+    assert!(before.accepted() && after.accepted());
     let relation = match constant.signum() {
         1 => "shifted up",
         0 => "shifted by 0",

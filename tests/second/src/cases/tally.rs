@@ -18,6 +18,13 @@ pub struct Asked<C> {
     pub answers: Answers,
 }
 
+impl<C> Asked<C> {
+    /// By the reference.
+    pub fn accepted(&self) -> bool {
+        self.answers.expected.number == 0
+    }
+}
+
 const SHOWN: usize = 5;
 
 pub struct Tally {
