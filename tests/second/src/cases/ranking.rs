@@ -26,13 +26,14 @@ const COUNTS: &[usize] = &[
 
 /// Differences from -reach to reach, or at these two ends alone.
 fn differences(n: usize, reach: i64, dice: &mut Dice) -> Vec<i64> {
-    let ends_alone = dice.one_in(2);
-    (0..n)
-        .map(|_| match ends_alone {
-            true => dice.among(&[-reach, reach]),
-            false => around_0(reach, dice),
-        })
-        .collect()
+    match dice.one_in(2) {
+        true => ends_alone(n, reach, dice),
+        false => (0..n).map(|_| around_0(reach, dice)).collect(),
+    }
+}
+
+fn ends_alone(n: usize, reach: i64, dice: &mut Dice) -> Vec<i64> {
+    (0..n).map(|_| dice.among(&[-reach, reach])).collect()
 }
 
 fn around_0(reach: i64, dice: &mut Dice) -> i64 {
@@ -89,24 +90,31 @@ fn neighbours(tally: &mut Tally, dice: &mut Dice) {
     let any = [dice.between(2, 300), dice.between(301, 16_384)];
     for n in COUNTS.iter().copied().chain(any.map(|n| n as usize)) {
         for reach in [1, 2, 100, 4095] {
-            let [lesser, greater] = neighbouring(n, reach, dice)
-                .map(|differences| tally.ask(of_differences(&differences, dice)));
-            assert!(ranking::neighbours(
-                &lesser.answers.expected,
-                &greater.answers.expected
-            ));
-            rank(tally, &lesser, &greater);
+            let drawn = differences(n, reach, dice);
+            rank_neighbours(tally, drawn, reach, dice);
         }
     }
+    let greatest = ends_alone(16_384, 4095, dice);
+    rank_neighbours(tally, greatest, 4095, dice);
+}
+
+fn rank_neighbours(tally: &mut Tally, drawn: Vec<i64>, reach: i64, dice: &mut Dice) {
+    let [lesser, greater] = neighbouring(drawn, reach, dice)
+        .map(|differences| tally.ask(of_differences(&differences, dice)));
+    assert!(ranking::neighbours(
+        &lesser.answers.expected,
+        &greater.answers.expected
+    ));
+    rank(tally, &lesser, &greater);
 }
 
 /// Differences, and the same with one of them raised from d to d + 1. That raises P by
 /// n (2 d + 1) - (2 s + 1), where s is their sum: by 1 at even n and by 2 at odd n, since s is made
-/// n d + n / 2 - 1, n / 2 rounded down. They are drawn around 0 with d = 0, and a drift comes last.
-fn neighbouring(n: usize, reach: i64, dice: &mut Dice) -> [Vec<i64>; 2] {
-    let mut lesser = differences(n, reach, dice);
+/// n d + n / 2 - 1, n / 2 rounded down. They are drawn around 0, one is made d = 0, and a drift
+/// comes last. Where the ends alone were drawn, all but two stay at the ends.
+fn neighbouring(mut lesser: Vec<i64>, reach: i64, dice: &mut Dice) -> [Vec<i64>; 2] {
     lesser[0] = 0;
-    let mut missing = n as i64 / 2 - 1 - lesser.iter().sum::<i64>();
+    let mut missing = lesser.len() as i64 / 2 - 1 - lesser.iter().sum::<i64>();
     for difference in &mut lesser[1..] {
         let step = missing.clamp(-reach - *difference, reach - *difference);
         *difference += step;
@@ -129,7 +137,8 @@ fn other_counts(tally: &mut Tally, dice: &mut Dice) {
         for most in [5, 50, 3276] {
             let n = dice.between(2, most) as usize;
             let times = dice.between(2, 5) as usize;
-            repeated(tally, neighbouring(n, reach, dice), times, dice);
+            let drawn = differences(n, reach, dice);
+            repeated(tally, neighbouring(drawn, reach, dice), times, dice);
         }
     }
 }
