@@ -45,7 +45,7 @@ fn least_side(count: usize, other: usize) -> usize {
     count.div_ceil(other).next_multiple_of(2)
 }
 
-/// A window of any width with room for `count` surveyed sites, and for some gaps.
+/// A window of any width with room for `count` surveyed sites, and mostly for unsurveyed ones too.
 fn with_room(count: usize, dice: &mut Dice) -> Shape {
     let width = shapes::even(dice, least_side(count, 128), 128);
     let least = least_side(count, width);
@@ -266,8 +266,8 @@ fn of_bands(shape: Shape, full_scale: u64, dice: &mut Dice) -> Pair {
     }
 }
 
-/// Surveyed samples between two levels. At gaps junk, or in every second frame none, so that a
-/// shift brings the first.
+/// Surveyed samples between two levels. At unsurveyed sites junk, or in half of the frames none, so
+/// that a shift brings the first.
 fn band(mask: &[u8], full_scale: u64, dice: &mut Dice) -> Vec<u16> {
     let (one, other) = (dice.between(0, full_scale), dice.between(0, full_scale));
     let (least, most) = (one.min(other), one.max(other));
@@ -330,7 +330,7 @@ fn shift(
     after
 }
 
-/// Adds the constant to each surveyed sample of one frame; at its gaps other junk is drawn.
+/// Adds the constant to each surveyed sample of one frame; at its other sites new junk is drawn.
 fn shifted(case: &Pair, in_first: bool, constant: i64, dice: &mut Dice) -> Pair {
     let mut after = case.clone();
     let second = after
