@@ -341,6 +341,32 @@ mod tests {
         assert_eq!(ranked(&eight, &two), Ok(()));
     }
 
+    /// 13 sites of which six differ by 1: P 42, so the exact variance is 42/338, below 1/8.
+    fn below_an_eighth() -> Pair<'static> {
+        Pair {
+            width: 4,
+            height: 4,
+            full_scale: 1,
+            mask: &[0, 0, 1, 0, 0, 0, 0, 2, 0, 3, 0, 0, 0, 0, 0, 0],
+            first: &[0; 16],
+            second: &[1, 1, 65535, 1, 1, 1, 1, 65535, 0, 65535, 0, 0, 0, 0, 0, 0],
+        }
+    }
+
+    /// Tells a law that would bind the noise at other n: the lesser exact variance has the greater
+    /// noise, 293/832 against 45/128.
+    #[test]
+    fn the_order_of_the_noise_may_turn_at_other_n() {
+        let [two, _] = an_eighth();
+        let [thirteen, two] = [below_an_eighth(), two].map(|pair| answers(pair_figures, &pair));
+        assert_eq!(thirteen.found, accepted(13, 42, 293));
+        assert_eq!(two.found, accepted(2, 1, 45));
+        assert_eq!(exact_order(&thirteen.found, &two.found), Ordering::Less);
+        assert!(figures(&thirteen.found).noise > figures(&two.found).noise);
+        assert_eq!(ranked(&thirteen, &two), Ok(()));
+        assert_eq!(ranked(&two, &thirteen), Ok(()));
+    }
+
     /// Tells the mean taken off in floats: the differences 0 0 1 and 1 1 2 have one exact variance.
     #[test]
     fn a_rounded_mean_breaks_equal_figures() {
