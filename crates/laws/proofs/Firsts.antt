@@ -1,4 +1,4 @@
--- The laws of `firstTo`.
+-- The laws of `firstTo` and `countTo`.
 use Prim.Native.Nat.{ℕ, zero, suc, _+_, _≤_, _<_}
 use mathlib.Core.Bool.{Bool, true, false, cond, _||_}
 use mathlib.Core.Logic.{⊎-elim}
@@ -8,8 +8,9 @@ use native.Mathlib.Numerals.{add-one}
 use native.Mathlib.Omega.{arith}
 use lib.Dec.{ltb}
 use borrow.Author.Tests.{lt-ltb, le-ltb, ltb-false}
-use Rattle.laws.specs.First.{firstTo, someTo}
+use Rattle.laws.specs.First.{firstTo, someTo, countTo}
 use Rattle.laws.proofs.Cases.{lt-or-ge, true-or-false, not-both}
+use Rattle.laws.proofs.Sums.{sum-le, sum-zero, zero-terms}
 
 module _ (test : ℕ → Bool) where
   -- where a search begins
@@ -89,6 +90,31 @@ module _ (test : ℕ → Bool) where
       by : (b : Bool) → b ≡ ltb (cond b n (suc n)) (suc n)
       by true = sym (lt-ltb n (suc n) (omega arith))
       by false = sym (le-ltb (suc n) (suc n) (omega arith))
+
+  -- a count is at most n
+  pub count-most : (n : ℕ) → countTo n test ≤ n
+  count-most n = omega (arith, sum-le n 1 (λ (i : ℕ). cond (test i) 1 0) (λ i l. by (test i)))
+    where
+      by : (b : Bool) → cond b 1 0 ≤ 1
+      by true = omega arith
+      by false = omega arith
+
+  -- it is 0 exactly where the test holds nowhere, so at least 1 exactly where something is found
+  pub none-counted : (n : ℕ) → countTo n test ≡ 0 → someTo n test ≡ false
+  none-counted n e = nowhere-first n (λ i l. by (test i) (zero-terms n (λ (i : ℕ). cond (test i) 1 0) e i l))
+    where
+      by : (b : Bool) → _≡_ {A = ℕ} (cond b 1 0) 0 → b ≡ false
+      by true z = absurd (omega arith)
+      by false z = refl
+
+  pub some-counted : (n : ℕ) → someTo n test ≡ true → 1 ≤ countTo n test
+  some-counted n e = ⊎-elim (λ l. absurd (not-both e (none-counted n (omega arith)))) (λ g. g) (lt-or-ge (countTo n test) 1)
+
+  pub nowhere-counted : (n : ℕ) → someTo n test ≡ false → countTo n test ≡ 0
+  nowhere-counted n e = sum-zero n (λ (i : ℕ). cond (test i) 1 0) (λ i l. rw (first-nowhere n e i l))
+
+  pub counted-some : (n : ℕ) → (countTo n test ≡ 0 → ⊥) → someTo n test ≡ true
+  counted-some n f = ⊎-elim (λ t. t) (λ e. absurd (f (nowhere-counted n e))) (true-or-false (someTo n test))
 
 -- two tests that agree below n find the same
 pub first-ext : (n : ℕ) (f g : ℕ → Bool) → ((k : ℕ) → k < n → f k ≡ g k) → firstTo n f ≡ firstTo n g
