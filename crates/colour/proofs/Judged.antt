@@ -18,7 +18,8 @@ use Rattle.window.specs.Shape.{badSides, badScale, sitesOf}
 use Rattle.window.specs.View.{seen, one}
 use Rattle.window.proofs.Sides.{Sides, sides, scale}
 use Rattle.refusals.specs.Judge.{otherThan}
-use Rattle.refusals.proofs.Judges.{codesTest, samplesTest, Framed, frame-clear, frame-tabled}
+use Rattle.refusals.proofs.Ranges.{samplesTest}
+use Rattle.refusals.proofs.Judges.{codesTest, Framed, frame-clear, frame-tabled}
 use Rattle.plane.specs.Plane.{boxSums}
 use Rattle.plane.specs.declared.Sums.{Sums}
 use Rattle.colour.specs.Bayer.{mosaicOf, centresOf}
@@ -72,7 +73,7 @@ module _ (w h full black order : ℕ) (mask frame : List ℕ) where
       ∷ test 4 0 (otherThan (sitesOf w h) (length mask))
       ∷ test 4 0 (otherThan (sitesOf w h) (length frame))
       ∷ codesTest (sitesOf w h) mask
-      ∷ samplesTest (sitesOf w h) full (seen mask frame)
+      ∷ samplesTest w h full (seen mask frame ∷ []) (seen mask frame)
       ∷ test 9 0 (tooSmall w h)
       ∷ test 7 0 (someEmpty (centresSeen w h order mask frame))
       ∷ test 10 0 (notAbove (aboveBlack black (centresSeen w h order mask frame .gr)))
@@ -100,7 +101,7 @@ module _ (w h full black order : ℕ) (mask frame : List ℕ) where
         lent = of;
         legal = sides w h (of .of .legal);
         scale = scale full (of .of .scaled) .high;
-        dark = ltb-false full black (unless 3 0 (ltb full black) (then-clear _ _ (passed .0) .0));
+        dark = ltb-false full black (unless _ (ltb full black) (then-clear _ _ (passed .0) .0));
       }
 
   -- what an accepted call has
@@ -122,8 +123,8 @@ module _ (w h full black order : ℕ) (mask frame : List ℕ) where
       let large = then-clear _ _ (framed .1) in
       let some = then-clear _ _ (large .1) in
       let l = lent (framed .0) in
-      let wide = neither (ltb (w / 2) 32) (ltb (h / 2) 24) (unless 9 0 (tooSmall w h) (large .0)) in
-      let seen-some = filled shown (unless 7 0 (someEmpty shown) (some .0)) in
+      let wide = neither (ltb (w / 2) 32) (ltb (h / 2) 24) (unless _ (tooSmall w h) (large .0)) in
+      let seen-some = filled shown (unless _ (someEmpty shown) (some .0)) in
       let lit : (plane : ℕ) → 0 < centreSums w h (seen mask frame) (one mask) plane .count → Lit full (centreSums w h (seen mask frame) (one mask) plane) =
       λ plane more. record { some = more; few = few w h mask frame plane; low = low w h mask frame plane full (λ i j. l .lent .range i (omega (arith, l .legal .sites))) } in
       record {
@@ -134,7 +135,7 @@ module _ (w h full black order : ℕ) (mask frame : List ℕ) where
         gr = lit (mosaicOf order .gr) (seen-some .1 .0);
         b = lit (mosaicOf order .b) (seen-some .1 .1 .0);
         gb = lit (mosaicOf order .gb) (seen-some .1 .1 .1);
-        bright = above-black black (shown .gr) (unless 10 0 (notAbove (aboveBlack black (shown .gr))) (some .1));
+        bright = above-black black (shown .gr) (unless _ (notAbove (aboveBlack black (shown .gr))) (some .1));
       }
 
   -- where 1 to 6 refuse nothing, what the code sees is what is in the centres, and they decide

@@ -13,6 +13,7 @@ use Rattle.verdict.proofs.Verdicts.{not-given, then-assoc}
 use Rattle.window.specs.Shape.{sitesOf}
 use Rattle.window.specs.View.{seen, one}
 use Rattle.refusals.specs.Judge.{shapeOf, lengthOf, codesOf, samplesOf, maskVerdict, frameVerdict}
+use Rattle.refusals.proofs.Ranges.{overOf, range-one}
 use Rattle.plane.specs.Plane.{planeRow, planeColumn, sums}
 use Rattle.plane.specs.declared.Sums.{Sums}
 use Rattle.plane.proofs.Planes.{box-seen}
@@ -38,11 +39,11 @@ past {a} {a′} {b} {d} e p q f =
     by (verdict.Refused r) p q = refl
 
 -- searches of which nothing is given leave what follows
-unsearched : (n k : ℕ) (bad over : ℕ → Bool) (v : Verdict) → Quiet (refuseFirst 5 n bad ⨟ refuseFirst 6 k over ⨟ v)
-    → refuseFirst 5 n bad ⨟ refuseFirst 6 k over ⨟ v ≡ v
-unsearched n k bad over v q =
-    let e = not-given 5 n bad (refuseFirst 6 k over ⨟ v) (q .0) in
-    e ∙ not-given 6 k over v (λ given. q .1 (ap numberOf e ∙ given))
+unsearched : (n k count : ℕ) (bad over : ℕ → Bool) (v : Verdict) → Quiet (refuseFirst 5 0 n bad ⨟ refuseFirst 6 count k over ⨟ v)
+    → refuseFirst 5 0 n bad ⨟ refuseFirst 6 count k over ⨟ v ≡ v
+unsearched n k count bad over v q =
+    let e = not-given 5 0 n bad (refuseFirst 6 count k over ⨟ v) (q .0) in
+    e ∙ not-given 6 count k over v (λ given. q .1 (ap numberOf e ∙ given))
 
 -- 1 to 6 in turn, each by itself
 in-turn : (w h full black order : ℕ) (mask frame : List ℕ) (v : Verdict)
@@ -54,10 +55,10 @@ in-turn : (w h full black order : ℕ) (mask frame : List ℕ) (v : Verdict)
     ⨟ lengthOf w h (length frame)
     ⨟ verdict.Clear
     ⨟ codesOf (sitesOf w h) mask
-    ⨟ samplesOf (sitesOf w h) full (seen mask frame)
+    ⨟ samplesOf (overOf w h full (seen mask frame)) (sitesOf w h) full (seen mask frame)
     ⨟ v
 unfolding lentVerdict frameVerdict maskVerdict
-in-turn w h full black order mask frame v = simp then-assoc refl
+in-turn w h full black order mask frame v = rw (range-one w h full (seen mask frame)) (simp then-assoc refl)
 
 -- a site that lies in the centre of its plane
 pub record InCentre (w h i : ℕ) : Type 0 where
@@ -89,6 +90,6 @@ module _ (w h full black order : ℕ) (mask frame mask′ frame′ : List ℕ) (
       (e
       ∙ past refl (subst (λ (v : Verdict). Quiet v) e p) (subst (λ (v : Verdict). Quiet v) e′ q) (λ p q.
       past refl p q (λ p q. past refl p q (λ p q. past (measured m) p q (λ p q. past (measured f) p q (λ p q. past refl p q (λ p q.
-      unsearched _ _ _ _ _ p ∙ ap (λ (shown : Centres). centresVerdict w h black shown) same-shown ∙ sym (unsearched _ _ _ _ _ q)))))))
+      unsearched _ _ _ _ _ _ p ∙ ap (λ (shown : Centres). centresVerdict w h black shown) same-shown ∙ sym (unsearched _ _ _ _ _ _ q)))))))
       ∙ sym e′)
       same-shown

@@ -6,13 +6,15 @@ use mathlib.Core.Path.{_≡_, refl}
 use native.Mathlib.Omega.{arith}
 use lib.Dec.{eqb}
 use lib.ListN.{length, getD}
+use Rattle.laws.specs.First.{countTo}
 use Rattle.laws.proofs.Sole.{Sole, sole}
-use Rattle.verdict.proofs.Verdicts.{Tabled, Refuses, refuses}
-use Rattle.verdict.proofs.Answers.{paper-told}
+use Rattle.verdict.proofs.Verdicts.{Tabled, RefusesCounting, refuses, over-at-six}
+use Rattle.verdict.proofs.Answers.{counted-told}
 use Rattle.window.specs.Shape.{sitesOf}
-use Rattle.window.specs.View.{surveyed, seen, one}
+use Rattle.window.specs.View.{surveyed, seen, one, above}
 use Rattle.window.proofs.Views.{Agree, same-view}
 use Rattle.refusals.specs.Judge.{frameVerdict}
+use Rattle.refusals.proofs.Ranges.{one-counting}
 use Rattle.plane.specs.Plane.{rowParity, columnParity}
 use Rattle.colour.specs.Bayer.{mosaic, mosaicOf}
 use Rattle.colour.specs.Centre.{centreOf}
@@ -33,20 +35,24 @@ module _ (w h full black order : ℕ) (mask frame : List ℕ) where
   -- the paper's numbers are those of the answer
   pub paper-is : paperOf (colourAnswer w h full black order mask frame) ≡ colourPaper w h full black order mask frame
   unfolding colourAnswer colourPaper
-  paper-is = paper-told paperOf (colourVerdict w h full black order mask frame) refl (λ r. refl)
+  paper-is = counted-told paperOf (colourVerdict w h full black order mask frame) refl (λ r. refl)
 
   -- given: 1 to 6, 9, 7 and 10 exactly as document 01 tables them, in that order (`tests` has the table). 9 before 7 is the one exception
   -- to ascending numbers: a window that is too small gets 9, even with no surveyed site
   pub given : Tabled (colourVerdict w h full black order mask frame) (tests w h full black order mask frame)
   given = table w h full black order mask frame
 
-  -- refused: where the number is not 0 the other six numbers are 0, and where it is 0 so is the place
-  pub refused : Refuses (colourPaper w h full black order mask frame .number) (colourPaper w h full black order mask frame .place)
+  -- refused: where the number is not 0 all six figures are 0, and where it is 0 so is the place. Where it is 6, over is at least 1 and just
+  -- the count of samples above full scale; else it is 0
+  pub refused : RefusesCounting (colourPaper w h full black order mask frame) (countTo (sitesOf w h) (above full (seen mask frame)))
       (colourPaper w h full black order mask frame .figures ≡ noFigures)
   unfolding colourPaper
-  refused = refuses (colourVerdict w h full black order mask frame) given refl (λ r e. rw e)
+  refused = (
+    refuses (colourVerdict w h full black order mask frame) given refl (λ r e. rw e),
+    over-at-six (colourVerdict w h full black order mask frame) given refl (one-counting w h full (seen mask frame)),
+  )
 
-  -- blind: what another frame holds at unsurveyed sites changes nothing
+  -- blind: what another frame holds at unsurveyed sites changes nothing, no count either
   pub blind : (other : List ℕ) → Agree mask frame other
       → colourAnswer w h full black order mask frame ≡ colourAnswer w h full black order mask other
   unfolding colourAnswer colourVerdict lentVerdict frameVerdict

@@ -1,23 +1,22 @@
 -- A black level and samples that are raised alike leave every T as it is, and so every test and every ratio.
 use Prim.Native.Nat.{ℕ, _+_, _*_, _≤_, _<_}
 use mathlib.Core.Bool.{true}
-use mathlib.Core.List.{List}
+use mathlib.Core.List.{List, [], _∷_}
 use mathlib.Core.Path.{_≡_, refl, sym, ap, _∙_}
 use native.Mathlib.Omega.{arith}
-use lib.Dec.{ltb}
 use lib.ListN.{length, getD}
 use borrow.Author.Tests.{le-ltb}
-use Rattle.laws.proofs.Firsts.{first-ext}
 use Rattle.laws.proofs.Sums.{Shifted}
-use Rattle.verdict.specs.Verdict.{_⨟_, refuseIf, refuseFirst}
+use Rattle.verdict.specs.Verdict.{_⨟_}
 use Rattle.verdict.specs.declared.Verdict.{Verdict}
 use Rattle.verdict.proofs.Verdicts.{then-same}
 use Rattle.verdict.proofs.Answers.{answer-same}
 use Rattle.window.specs.Shape.{sitesOf}
-use Rattle.window.specs.View.{surveyed, above, seen, one}
+use Rattle.window.specs.View.{surveyed, seen, one}
 use Rattle.window.proofs.Sides.{Sides}
 use Rattle.window.proofs.Views.{seen-most, seen-shift}
-use Rattle.refusals.specs.Judge.{samplesOf, frameVerdict}
+use Rattle.refusals.specs.Judge.{rangeOf, frameVerdict}
+use Rattle.refusals.proofs.Ranges.{none, more, clear-samples}
 use Rattle.plane.specs.Plane.{siteAt}
 use Rattle.plane.proofs.Planes.{site-in, box-shifted}
 use Rattle.colour.specs.Bayer.{mosaicOf}
@@ -33,16 +32,13 @@ module _ (w h full black order d : ℕ) (mask frame brighter : List ℕ) (long :
   lifted i l = seen-shift mask frame brighter d 0 i (λ t. omega (arith, each i l t .0))
 
   -- neither frame has a surveyed sample above full scale
-  in-scale : (i : ℕ) → i < sitesOf w h → above full (seen mask brighter) i ≡ above full (seen mask frame) i
-  in-scale i l =
-      let most : seen mask brighter i ≤ full = seen-most mask brighter full i (λ t. each i l t .1) in
-      le-ltb full (seen mask brighter i) most ∙ sym (le-ltb full (seen mask frame i) (omega (arith, lifted i l)))
+  in-scale : (i : ℕ) → i < sitesOf w h → seen mask brighter i ≤ full
+  in-scale i l = seen-most mask brighter full i (λ t. each i l t .1)
 
-  samples : samplesOf (sitesOf w h) full (seen mask brighter) ≡ samplesOf (sitesOf w h) full (seen mask frame)
-  unfolding refuseFirst
-  samples =
-      ap (λ (k : ℕ). refuseIf 6 k (ltb k (sitesOf w h)))
-      (first-ext (sitesOf w h) (above full (seen mask brighter)) (above full (seen mask frame)) in-scale)
+  range : rangeOf w h full (seen mask brighter ∷ []) ≡ rangeOf w h full (seen mask frame ∷ [])
+  range =
+      clear-samples _ _ _ (more in-scale none)
+      ∙ sym (clear-samples _ _ _ (more (λ i l. omega (arith, lifted i l, in-scale i l)) none))
 
   module _ (legal : Sides w h) where
     totals : (plane : ℕ)
@@ -60,7 +56,7 @@ module _ (w h full black order d : ℕ) (mask frame brighter : List ℕ) (long :
 
   same-lent : lentVerdict w h full (black + d) order mask brighter ≡ lentVerdict w h full black order mask frame
   unfolding lentVerdict frameVerdict
-  same-lent = rw (le-ltb full (black + d) dark, le-ltb full black (omega arith), long, samples)
+  same-lent = rw (le-ltb full (black + d) dark, le-ltb full black (omega arith), long, range)
 
   same-verdict : colourVerdict w h full (black + d) order mask brighter ≡ colourVerdict w h full black order mask frame
   unfolding colourVerdict someEmpty

@@ -7,7 +7,7 @@ use lib.IntN.{ℤ, pos, natAbs, _*ℤ_}
 use lib.Signed.{ltZ}
 use Rattle.laws.specs.Signed.{_⊖_}
 use Rattle.verdict.specs.Verdict.{_⨟_, refuseIf}
-use Rattle.verdict.specs.Answer.{answerOf, Paper, acceptedPaper, refusedPaper, paperFor}
+use Rattle.verdict.specs.Answer.{answerOf, CountedPaper, acceptedCounted, refusedCounted, countedFor}
 use Rattle.verdict.specs.declared.Verdict.{Verdict}
 use Rattle.verdict.specs.declared.Verdict.the-variants as verdict
 use Rattle.window.specs.View.{seen, one}
@@ -84,11 +84,11 @@ colourAnswer w h full black order mask frame =
     answerOf (colourVerdict w h full black order mask frame) (OverGr (f .r) (f .b) (f .gb)) Refused
 
 -- the paper's numbers of an answer
-abbrev pub paperOf : Colour → Paper Figures
-paperOf (OverGr r b gb) = acceptedPaper (figures r b gb)
-paperOf (Refused r) = refusedPaper r noFigures
+abbrev pub paperOf : Colour → CountedPaper Figures
+paperOf (OverGr r b gb) = acceptedCounted (figures r b gb)
+paperOf (Refused r) = refusedCounted r noFigures
 
 -- the paper's numbers for all inputs
-unfoldable pub colourPaper : ℕ → ℕ → ℕ → ℕ → ℕ → List ℕ → List ℕ → Paper Figures
+unfoldable pub colourPaper : ℕ → ℕ → ℕ → ℕ → ℕ → List ℕ → List ℕ → CountedPaper Figures
 colourPaper w h full black order mask frame =
-    paperFor (colourVerdict w h full black order mask frame) (colourFigures black (centresSeen w h order mask frame)) noFigures
+    countedFor (colourVerdict w h full black order mask frame) (colourFigures black (centresSeen w h order mask frame)) noFigures

@@ -19,7 +19,8 @@ use Rattle.window.specs.Walk.{walked}
 use Rattle.window.specs.View.{seen, one}
 use Rattle.window.proofs.Sides.{scale}
 use Rattle.refusals.specs.Judge.{otherThan, frameVerdict}
-use Rattle.refusals.proofs.Judges.{codesTest, samplesTest, Framed, frame-clear, frame-tabled}
+use Rattle.refusals.proofs.Ranges.{samplesTest}
+use Rattle.refusals.proofs.Judges.{codesTest, Framed, frame-clear, frame-tabled}
 use Rattle.dark.specs.Dark.{aboveBlack, darkVerdict, darkAnswer, paperOf, darkPaper}
 use Rattle.dark.specs.declared.Dark.the-variants.{Level, Refused}
 
@@ -33,7 +34,7 @@ module _ (w h full black : ℕ) (mask frame : List ℕ) where
       ∷ test 4 0 (otherThan (sitesOf w h) (length mask))
       ∷ test 4 0 (otherThan (sitesOf w h) (length frame))
       ∷ codesTest (sitesOf w h) mask
-      ∷ samplesTest (sitesOf w h) full (seen mask frame)
+      ∷ samplesTest w h full (seen mask frame ∷ []) (seen mask frame)
       ∷ test 7 0 (eqb (sumTo (sitesOf w h) (one mask)) 0)
       ∷ []
 
@@ -61,9 +62,9 @@ module _ (w h full black : ℕ) (mask frame : List ℕ) where
   accepted e =
       let both = then-clear _ _ e in
       let lent = frame-clear w h full mask frame (both .0) in
-      let b = ltb-false full black (unless 3 0 (ltb full black) (lent .0)) in
+      let b = ltb-false full black (unless _ (ltb full black) (lent .0)) in
       let s = scale full (lent .2 .of .scaled) in
-      let some = eqb-false (sumTo (sitesOf w h) (one mask)) 0 (unless 7 0 _ (both .1)) in
+      let some = eqb-false (sumTo (sitesOf w h) (one mask)) 0 (unless _ _ (both .1)) in
       record { lent = lent .2; dark = omega arith; some = omega arith }
 
   pub refused-is : (r : Refusal) → darkVerdict w h full black mask frame ≡ verdict.Refused r

@@ -6,16 +6,18 @@ use native.Mathlib.Omega.{arith}
 use lib.Dec.{ltb}
 use lib.IntN.{ℤ, pos}
 use lib.Signed.{ltZ}
+use Rattle.laws.specs.First.{countTo}
 use Rattle.laws.specs.Sum.{sumTo}
 use Rattle.laws.specs.Signed.{_⊖_}
 use Rattle.laws.proofs.Signeds.{⊖-below, ⊖-self, ⊖-cross}
 use Rattle.laws.proofs.Sole.{Sole, sole}
-use Rattle.verdict.proofs.Verdicts.{Tabled, Refuses, refuses}
-use Rattle.verdict.proofs.Answers.{paper-told}
+use Rattle.verdict.proofs.Verdicts.{Tabled, RefusesCounting, refuses, over-at-six}
+use Rattle.verdict.proofs.Answers.{counted-told}
 use Rattle.window.specs.Shape.{sitesOf}
-use Rattle.window.specs.View.{seen, one}
+use Rattle.window.specs.View.{seen, one, above}
 use Rattle.window.proofs.Views.{Agree, same-view}
 use Rattle.refusals.specs.Judge.{frameVerdict}
+use Rattle.refusals.proofs.Ranges.{one-counting}
 use Rattle.dark.specs.Dark.{aboveBlack, darkVerdict, noFigures, darkAnswer, paperOf, darkPaper}
 use Rattle.dark.specs.declared.Dark.the-variants.{Level}
 use Rattle.dark.proofs.Levels.{tests, table, accepted, answer-is}
@@ -28,19 +30,23 @@ module _ (w h full black : ℕ) (mask frame : List ℕ) where
   -- the paper's numbers are those of the answer
   pub paper-is : paperOf (darkAnswer w h full black mask frame) ≡ darkPaper w h full black mask frame
   unfolding darkAnswer darkPaper
-  paper-is = paper-told paperOf (darkVerdict w h full black mask frame) refl (λ r. refl)
+  paper-is = counted-told paperOf (darkVerdict w h full black mask frame) refl (λ r. refl)
 
   -- given: 1 to 7 exactly as document 01 tables them, in that order (`tests` has the table)
   pub given : Tabled (darkVerdict w h full black mask frame) (tests w h full black mask frame)
   given = table w h full black mask frame
 
-  -- refused: where the number is not 0 the other two numbers are 0, and where it is 0 so is the place
-  pub refused : Refuses (darkPaper w h full black mask frame .number) (darkPaper w h full black mask frame .place)
+  -- refused: where the number is not 0 both figures are 0, and where it is 0 so is the place. Where it is 6, over is at least 1 and just the
+  -- count of samples above full scale; else it is 0
+  pub refused : RefusesCounting (darkPaper w h full black mask frame) (countTo (sitesOf w h) (above full (seen mask frame)))
       (darkPaper w h full black mask frame .figures ≡ noFigures)
   unfolding darkPaper
-  refused = refuses (darkVerdict w h full black mask frame) given refl (λ r e. rw e)
+  refused = (
+    refuses (darkVerdict w h full black mask frame) given refl (λ r e. rw e),
+    over-at-six (darkVerdict w h full black mask frame) given refl (one-counting w h full (seen mask frame)),
+  )
 
-  -- blind: what another frame holds at unsurveyed sites changes nothing
+  -- blind: what another frame holds at unsurveyed sites changes nothing, no count either
   pub blind : (other : List ℕ) → Agree mask frame other → darkAnswer w h full black mask frame ≡ darkAnswer w h full black mask other
   unfolding darkAnswer darkVerdict frameVerdict
   blind other a = rw (a .long, same-view a)

@@ -6,7 +6,7 @@ use lib.IntN.{ℤ, pos}
 use Rattle.laws.specs.Sum.{sumTo}
 use Rattle.laws.specs.Signed.{_⊖_}
 use Rattle.verdict.specs.Verdict.{_⨟_, refuseIf}
-use Rattle.verdict.specs.Answer.{answerOf, Paper, acceptedPaper, refusedPaper, paperFor}
+use Rattle.verdict.specs.Answer.{answerOf, CountedPaper, acceptedCounted, refusedCounted, countedFor}
 use Rattle.verdict.specs.declared.Verdict.{Verdict}
 use Rattle.verdict.specs.declared.Verdict.the-variants as verdict
 use Rattle.window.specs.Shape.{sitesOf}
@@ -48,11 +48,11 @@ darkAnswer w h full black mask frame =
     answerOf (darkVerdict w h full black mask frame) (Level (f .numerator) (f .denominator)) Refused
 
 -- the paper's numbers of an answer
-abbrev pub paperOf : Dark → Paper Figures
-paperOf (Level numerator denominator) = acceptedPaper (figures numerator denominator)
-paperOf (Refused r) = refusedPaper r noFigures
+abbrev pub paperOf : Dark → CountedPaper Figures
+paperOf (Level numerator denominator) = acceptedCounted (figures numerator denominator)
+paperOf (Refused r) = refusedCounted r noFigures
 
 -- the paper's numbers for all inputs
-unfoldable pub darkPaper : ℕ → ℕ → ℕ → ℕ → List ℕ → List ℕ → Paper Figures
+unfoldable pub darkPaper : ℕ → ℕ → ℕ → ℕ → List ℕ → List ℕ → CountedPaper Figures
 darkPaper w h full black mask frame =
-    paperFor (darkVerdict w h full black mask frame) (darkFigures w h black mask frame) noFigures
+    countedFor (darkVerdict w h full black mask frame) (darkFigures w h black mask frame) noFigures

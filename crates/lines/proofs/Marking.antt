@@ -22,7 +22,8 @@ use Rattle.window.proofs.Sides.{Sides, sides}
 use Rattle.window.proofs.Walks.{walked-whole}
 use Rattle.refusals.specs.Judge.{otherThan, frameVerdict}
 use Rattle.refusals.proofs.Chains.{length-clear}
-use Rattle.refusals.proofs.Judges.{codesTest, samplesTest, Framed, frame-clear, frame-lent, frame-tabled}
+use Rattle.refusals.proofs.Ranges.{samplesTest}
+use Rattle.refusals.proofs.Judges.{codesTest, Framed, frame-clear, frame-lent, frame-tabled}
 use Rattle.lines.specs.Lines.{Lines, markAt}
 use Rattle.lines.specs.Walk.{lined}
 use Rattle.lines.specs.Marks.{marksOf, linesVerdict, linesAnswer, paperOf, linesPaper, linesBuffer}
@@ -54,7 +55,7 @@ module _ (lines : ℕ → ℕ → Lines) (w h full : ℕ) (mask frame : List ℕ
       ∷ test 4 0 (otherThan (sitesOf w h) (length frame))
       ∷ test 4 0 (otherThan (marksOf (lines w h)) marks)
       ∷ codesTest (sitesOf w h) mask
-      ∷ samplesTest (sitesOf w h) full (seen mask frame)
+      ∷ samplesTest w h full (seen mask frame ∷ []) (seen mask frame)
       ∷ test 9 0 (ltb (lines w h .count) 9)
       ∷ []
 
@@ -78,7 +79,7 @@ module _ (lines : ℕ → ℕ → Lines) (w h full : ℕ) (mask frame : List ℕ
         lent = lent .2;
         legal = sides w h (lent .2 .of .legal);
         marked = length-clear (marksOf (lines w h)) marks (lent .1);
-        nine = ltb-false (lines w h .count) 9 (unless 9 0 _ (both .1));
+        nine = ltb-false (lines w h .count) 9 (unless _ _ (both .1));
       }
 
   pub done-clear : linesAnswer lines w h full mask frame marks ≡ Done → linesVerdict lines w h full mask frame marks ≡ verdict.Clear

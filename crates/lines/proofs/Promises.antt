@@ -8,16 +8,19 @@ use native.Mathlib.Nat.{mod-lt}
 use native.Mathlib.Omega.{arith}
 use lib.Arith.{digits-lt}
 use lib.ListN.{length, getD}
+use Rattle.laws.specs.First.{countTo}
 use Rattle.laws.specs.Table.{tabulate}
 use Rattle.laws.proofs.Sums.{Shifted}
 use Rattle.laws.proofs.Tables.{getD-tabulate, tabulate-ext}
 use Rattle.laws.proofs.Sole.{Sole, sole}
 use Rattle.verdict.specs.declared.Verdict.the-variants as verdict
-use Rattle.verdict.proofs.Verdicts.{Tabled, Refuses, refuses}
-use Rattle.verdict.proofs.Answers.{paper-told}
-use Rattle.window.specs.View.{surveyed, seen, one}
+use Rattle.verdict.proofs.Verdicts.{Tabled, RefusesCounting, refuses, over-at-six}
+use Rattle.verdict.proofs.Answers.{counted-told}
+use Rattle.window.specs.Shape.{sitesOf}
+use Rattle.window.specs.View.{surveyed, seen, one, above}
 use Rattle.window.proofs.Views.{Agree, same-view, Offset, seen-shift}
 use Rattle.refusals.specs.Judge.{frameVerdict}
+use Rattle.refusals.proofs.Ranges.{one-counting}
 use Rattle.plane.specs.Plane.{siteAt}
 use Rattle.plane.proofs.Planes.{site-in, box-shifted}
 use Rattle.lines.specs.Lines.{Lines, rows, columns, markOf, lineSum, markAt}
@@ -36,19 +39,23 @@ module _ (lines : ℕ → ℕ → Lines) (w h full : ℕ) (mask frame marks : Li
   -- the paper's numbers are those of the answer
   pub paper-is : paperOf (linesAnswer lines w h full mask frame (length marks)) ≡ linesPaper lines w h full mask frame (length marks)
   unfolding linesAnswer linesPaper
-  paper-is = paper-told paperOf (linesVerdict lines w h full mask frame (length marks)) refl (λ r. refl)
+  paper-is = counted-told paperOf (linesVerdict lines w h full mask frame (length marks)) refl (λ r. refl)
 
   -- given: 1, 2, 4, 5, 6 and 9 exactly as document 01 tables them, in that order (`tests` has the table)
   pub given : Tabled (linesVerdict lines w h full mask frame (length marks)) (tests lines w h full mask frame (length marks))
   given = table lines w h full mask frame (length marks)
 
-  -- refused: where the number is not 0 the marks are as they were, and where it is 0 so is the place
-  pub refused : Refuses (linesPaper lines w h full mask frame (length marks) .number) (linesPaper lines w h full mask frame (length marks) .place)
+  -- refused: where the number is not 0 the marks are as they were, and where it is 0 so is the place. Where it is 6, over is at least 1 and
+  -- just the count of samples above full scale; else it is 0
+  pub refused : RefusesCounting (linesPaper lines w h full mask frame (length marks)) (countTo (sitesOf w h) (above full (seen mask frame)))
       (linesBuffer lines w h full mask frame marks ≡ marks)
   unfolding linesPaper linesBuffer
-  refused = refuses (linesVerdict lines w h full mask frame (length marks)) given refl (λ r e. rw e)
+  refused = (
+    refuses (linesVerdict lines w h full mask frame (length marks)) given refl (λ r e. rw e),
+    over-at-six (linesVerdict lines w h full mask frame (length marks)) given refl (one-counting w h full (seen mask frame)),
+  )
 
-  -- blind: what another frame holds at unsurveyed sites changes neither the answer nor any mark
+  -- blind: what another frame holds at unsurveyed sites changes neither the answer, its count among it, nor any mark
   pub blind : (other : List ℕ) → Agree mask frame other
       → (linesAnswer lines w h full mask frame (length marks) ≡ linesAnswer lines w h full mask other (length marks))
       × (linesBuffer lines w h full mask frame marks ≡ linesBuffer lines w h full mask other marks)

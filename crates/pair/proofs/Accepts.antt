@@ -9,19 +9,19 @@ use borrow.Author.Tests.{ltb-false, le-ltb}
 use Rattle.laws.proofs.Squares.{excess-most}
 use Rattle.laws.proofs.Cases.{times-le}
 use Rattle.exact.proofs.Noises.{Measured}
-use Rattle.verdict.specs.Verdict.{refuseFirst}
 use Rattle.verdict.specs.declared.Verdict.the-variants as verdict
-use Rattle.verdict.proofs.Verdicts.{Test, Tabled, test, tabled, tabled-none, tabled-then, then-clear, clear-then, unless, clear-unless}
+use Rattle.verdict.proofs.Verdicts.{Test, Tabled, test, tabled, tabled-then, then-clear, clear-then, unless, clear-unless}
 use Rattle.window.specs.Shape.{badSides, badScale, sitesOf}
 use Rattle.window.specs.View.{one, seen}
 use Rattle.window.proofs.Sides.{scale, sites-few}
 use Rattle.window.proofs.Views.{surveyed-most}
-use Rattle.refusals.specs.Judge.{otherThan}
-use Rattle.refusals.proofs.Judges.{codesTest, samplesTest, mask-tabled}
+use Rattle.refusals.specs.Judge.{otherThan, framesVerdict}
+use Rattle.refusals.proofs.Ranges.{samplesTest}
+use Rattle.refusals.proofs.Judges.{codesTest}
 use Rattle.pair.specs.Figures.{spreadOf}
-use Rattle.pair.specs.Pair.{pairSpread, framesVerdict, pairVerdict}
+use Rattle.pair.specs.Pair.{pairSpread, pairVerdict}
 use Rattle.pair.specs.declared.Spread.{Spread}
-use Rattle.pair.proofs.Frames.{Readable, readable, clear-frames}
+use Rattle.refusals.proofs.Frames.{Readable, readable, clear-frames, frames-tabled}
 use Rattle.pair.proofs.Spreads.{counted, spread-is}
 
 module _ (w h full : ℕ) (mask first second : List ℕ) where
@@ -34,17 +34,14 @@ module _ (w h full : ℕ) (mask first second : List ℕ) where
       ∷ test 4 0 (otherThan (sitesOf w h) (length first))
       ∷ test 4 0 (otherThan (sitesOf w h) (length second))
       ∷ codesTest (sitesOf w h) mask
-      ∷ samplesTest (sitesOf w h) full (seen mask first)
-      ∷ samplesTest (sitesOf w h) full (seen mask second)
+      ∷ samplesTest w h full (seen mask first ∷ seen mask second ∷ []) (seen mask first)
+      ∷ samplesTest w h full (seen mask first ∷ seen mask second ∷ []) (seen mask second)
       ∷ test 7 0 (ltb (pairSpread w h mask first second .n) 2)
       ∷ []
 
   pub table : Tabled (pairVerdict w h full mask first second) tests
-  unfolding pairVerdict framesVerdict refuseFirst
-  table =
-      tabled-then
-      (tabled-then (mask-tabled w h full mask tabled-none (tabled-then (tabled _ []) (tabled _ []))) (tabled-then (tabled _ []) (tabled _ [])))
-      (tabled _ [])
+  unfolding pairVerdict
+  table = tabled-then (frames-tabled w h full mask first second) (tabled _ [])
 
   -- what the walk asks of the lengths
   pub lent : framesVerdict w h full mask first second ≡ verdict.Clear
@@ -93,7 +90,7 @@ module _ {w h full : ℕ} {mask first second : List ℕ} where
       let frames = readable w h full mask first second (both .0) in
       record {
         frames = frames;
-        two = ltb-false _ 2 (unless 7 0 _ (both .1));
+        two = ltb-false _ 2 (unless _ _ (both .1));
         few = surveyed-most w h mask;
         exact = omega (arith, spread-greatest w h full mask first second frames);
       }
@@ -104,4 +101,4 @@ module _ {w h full : ℕ} {mask first second : List ℕ} where
   -- two frames that 1 to 6 let pass, with 2 surveyed sites or more, are accepted
   pub clear-pair : Readable w h full mask first second → 2 ≤ pairSpread w h mask first second .n → pairVerdict w h full mask first second ≡ verdict.Clear
   unfolding pairVerdict
-  clear-pair r two = clear-then (clear-frames w h full mask first second r) (clear-unless 7 0 (le-ltb _ 2 two))
+  clear-pair r two = clear-then (clear-frames w h full mask first second r) (clear-unless _ (le-ltb _ 2 two))

@@ -16,12 +16,13 @@ use Rattle.verdict.specs.declared.Refusal.{Refusal}
 use Rattle.verdict.specs.declared.Verdict.the-variants as verdict
 use Rattle.verdict.proofs.Answers.{was-accepted}
 use Rattle.window.specs.View.{one, seen}
+use Rattle.refusals.specs.Judge.{framesVerdict}
 use Rattle.pair.specs.Figures.{spreadOf, figuresOf}
-use Rattle.pair.specs.Pair.{pairSpread, framesVerdict, pairVerdict, pairFigures, pairAnswer, paperOf, pairPaper}
+use Rattle.pair.specs.Pair.{pairSpread, pairVerdict, pairFigures, pairAnswer, paperOf, pairPaper}
 use Rattle.pair.specs.declared.Spread.{Spread}
 use Rattle.pair.specs.declared.PairFigures.{PairFigures}
 use Rattle.pair.specs.declared.Pair.the-variants as pair
-use Rattle.pair.proofs.Frames.{readable}
+use Rattle.refusals.proofs.Frames.{readable}
 use Rattle.pair.proofs.Accepts.{Accepted, accepted, measured-at}
 
 -- the six numbers as they are worked out

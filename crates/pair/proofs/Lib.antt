@@ -1,6 +1,5 @@
 pub mod Walk
 pub mod Spreads
-pub mod Frames
 pub mod Accepts
 pub mod Answers
 pub mod Promises

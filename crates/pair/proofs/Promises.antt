@@ -1,5 +1,5 @@
 -- What is promised of `pair_figures`, for any numbers, any mask and any two frames.
-use Prim.Native.Nat.{ℕ, _*_, _^_, _≤_, _<_}
+use Prim.Native.Nat.{ℕ, _*_, _^_, _≤_, _<_, _+_}
 use mathlib.Core.List.{List}
 use mathlib.Core.Path.{_≡_, refl, sym, _∙_}
 use native.Mathlib.Nat.{mul-mul-mul-comm}
@@ -10,6 +10,7 @@ use lib.Ieee.Positive.{num, den}
 use lib.IntN.{pos}
 use lib.ListN.{length, getD}
 use borrow.Author.Tests.{lt-leb}
+use Rattle.laws.specs.First.{countTo}
 use Rattle.laws.specs.Sum.{sumTo}
 use Rattle.laws.proofs.Cases.{times-le}
 use Rattle.laws.proofs.Signeds.{⊖-self}
@@ -21,14 +22,16 @@ use Rattle.exact.proofs.Roots.{root-is, root-under}
 use Rattle.exact.proofs.Quotients.{quotient-zero, quotient-mono, zero-bits}
 use Rattle.exact.proofs.Division.{exact-float}
 use Rattle.exact.proofs.Noises.{variance-ranged, variance-near, noise-near, noise-plain, noise-zero, root-most}
-use Rattle.verdict.specs.Verdict.{_⨟_, refuseIf}
-use Rattle.verdict.proofs.Verdicts.{Tabled, Refuses, refuses, zero-clear, then-spare}
-use Rattle.verdict.proofs.Answers.{paper-told}
+use Rattle.verdict.specs.Verdict.{refusal, _⨟_, refuseIf}
+use Rattle.verdict.proofs.Verdicts.{Tabled, RefusesCounting, refuses, over-at-six, zero-clear, then-spare}
+use Rattle.verdict.proofs.Answers.{counted-told}
 use Rattle.window.specs.Shape.{sitesOf}
-use Rattle.window.specs.View.{seen, one}
+use Rattle.window.specs.View.{seen, one, above}
 use Rattle.window.proofs.Views.{Agree, same-view}
+use Rattle.refusals.specs.Judge.{framesVerdict}
+use Rattle.refusals.proofs.Ranges.{two-counting}
 use Rattle.pair.specs.Figures.{difference, numerator, spreadOf, noFigures}
-use Rattle.pair.specs.Pair.{pairSpread, framesVerdict, pairVerdict, pairFigures, pairAnswer, paperOf, pairPaper}
+use Rattle.pair.specs.Pair.{pairSpread, pairVerdict, pairFigures, pairAnswer, paperOf, pairPaper}
 use Rattle.pair.specs.declared.PairFigures.{PairFigures}
 use Rattle.pair.specs.declared.Pair.the-variants.{Measured}
 use Rattle.pair.proofs.Spreads.{SameDifference, whole, zero-same, same-zero}
@@ -43,22 +46,26 @@ module _ (w h full : ℕ) (mask first second : List ℕ) where
   -- the paper's numbers are those of the answer
   pub paper-is : paperOf (pairAnswer w h full mask first second) ≡ pairPaper w h full mask first second
   unfolding pairAnswer pairPaper
-  paper-is = paper-told paperOf (pairVerdict w h full mask first second) refl (λ r. refl)
+  paper-is = counted-told paperOf (pairVerdict w h full mask first second) refl (λ r. refl)
 
   -- given: 1, 2 and 4 to 7 exactly as document 01 tables them, in that order (`tests` has the table)
   pub given : Tabled (pairVerdict w h full mask first second) (tests w h full mask first second)
   given = table w h full mask first second
 
-  -- refused: where the number is not 0 every other number but the place is 0, and where it is 0 so is the place
-  pub refused : Refuses (pairPaper w h full mask first second .number) (pairPaper w h full mask first second .place)
+  -- refused: where the number is not 0 every other number but place and over is 0, and where it is 0 so is the place. Where it is 6, over is
+  -- at least 1 and just the count of samples above full scale, over both frames; else it is 0
+  pub refused : RefusesCounting (pairPaper w h full mask first second) (countTo (sitesOf w h) (above full (seen mask first)) + countTo (sitesOf w h) (above full (seen mask second)))
       (pairPaper w h full mask first second .figures ≡ noFigures)
   unfolding pairPaper
-  refused = refuses (pairVerdict w h full mask first second) given refl (λ r e. rw e)
+  refused = (
+    refuses (pairVerdict w h full mask first second) given refl (λ r e. rw e),
+    over-at-six (pairVerdict w h full mask first second) given refl (two-counting w h full (seen mask first) (seen mask second)),
+  )
 
   -- spare: with document 01's 14, where P is 2^53 or more, put last, every verdict is the same (document 02, h)
   pub spare : pairVerdict w h full mask first second ⨟ refuseIf 14 0 (leb (2 ^ 53) (pairSpread w h mask first second .p))
       ≡ pairVerdict w h full mask first second
-  spare = then-spare (pairVerdict w h full mask first second) 14 0 (λ e. lt-leb (2 ^ 53) (pairSpread w h mask first second .p) (accepted e .exact))
+  spare = then-spare (pairVerdict w h full mask first second) (refusal 14 0) (λ e. lt-leb (2 ^ 53) (pairSpread w h mask first second .p) (accepted e .exact))
 
   -- answered: where the number is 0 the answer is the paper's figures
   pub answered : pairPaper w h full mask first second .number ≡ 0
@@ -140,7 +147,7 @@ module _ (w h full : ℕ) (mask first second : List ℕ) (figures : PairFigures)
   pub noise-none : figures .p ≡ 0 → figures .noise ≡ ofBits binary64 0
   noise-none z = rw (are, sym (whole-numbers .0) ∙ z) (noise-zero _ (measured passed .some) ∙ sym zero-bits)
 
--- blind: what a frame holds at a site that is not surveyed changes no answer
+-- blind: what a frame holds at a site that is not surveyed changes no answer, its count among it
 pub blind : (w h full : ℕ) {mask first first′ second second′ : List ℕ} → Agree mask first first′ → Agree mask second second′
     → pairAnswer w h full mask first second ≡ pairAnswer w h full mask first′ second′
 unfolding pairAnswer pairVerdict framesVerdict

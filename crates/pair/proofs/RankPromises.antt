@@ -20,7 +20,7 @@ use Rattle.pair.specs.declared.Spread.{Spread}
 use Rattle.pair.specs.declared.PairFigures.{PairFigures}
 use Rattle.pair.specs.declared.Pair.the-variants.{Measured}
 use Rattle.pair.proofs.Spreads.{spread-swap, spread-shift}
-use Rattle.pair.proofs.Frames.{Readable}
+use Rattle.refusals.proofs.Frames.{Readable}
 use Rattle.pair.proofs.Accepts.{Accepted, Measurable, measured, clear-pair}
 use Rattle.pair.proofs.Answers.{accepted-is, answer-is}
 

@@ -2,14 +2,12 @@
 use Prim.Native.Nat.{ℕ}
 use mathlib.Core.List.{List}
 use lib.Dec.{ltb}
-use lib.ListN.{length}
 use Rattle.verdict.specs.Verdict.{_⨟_, refuseIf}
-use Rattle.verdict.specs.Answer.{answerOf, Paper, acceptedPaper, refusedPaper, paperFor}
+use Rattle.verdict.specs.Answer.{answerOf, CountedPaper, acceptedCounted, refusedCounted, countedFor}
 use Rattle.verdict.specs.declared.Verdict.{Verdict}
-use Rattle.verdict.specs.declared.Verdict.the-variants as verdict
 use Rattle.window.specs.Shape.{sitesOf}
 use Rattle.window.specs.View.{one, seen}
-use Rattle.refusals.specs.Judge.{lengthOf, rangeOf, maskVerdict}
+use Rattle.refusals.specs.Judge.{framesVerdict}
 use Rattle.pair.specs.Figures.{spreadOf, figuresOf, noFigures}
 use Rattle.pair.specs.declared.Spread.{Spread}
 use Rattle.pair.specs.declared.PairFigures.{PairFigures}
@@ -20,14 +18,7 @@ use Rattle.pair.specs.declared.Pair.the-variants.{Measured, Refused}
 abbrev pub pairSpread : ℕ → ℕ → List ℕ → List ℕ → List ℕ → Spread
 pairSpread w h mask first second = spreadOf (sitesOf w h) (one mask) (seen mask first) (seen mask second)
 
--- the refusals in their order: 1, 2, 4 and 5, then 6, the first frame's sites before the second's
-unfoldable pub framesVerdict : ℕ → ℕ → ℕ → List ℕ → List ℕ → List ℕ → Verdict
-framesVerdict w h full mask first second =
-    maskVerdict w h full verdict.Clear mask (lengthOf w h (length first) ⨟ lengthOf w h (length second))
-    ⨟ rangeOf w h full mask first
-    ⨟ rangeOf w h full mask second
-
--- then 7, fewer than 2 surveyed sites; there is no 14 (document 02, h)
+-- the refusals in their order: 1, 2 and 4 to 6, then 7, fewer than 2 surveyed sites; there is no 14 (document 02, h)
 unfoldable pub pairVerdict : ℕ → ℕ → ℕ → List ℕ → List ℕ → List ℕ → Verdict
 pairVerdict w h full mask first second =
     framesVerdict w h full mask first second
@@ -43,11 +34,11 @@ pairAnswer w h full mask first second =
     answerOf (pairVerdict w h full mask first second) (Measured (pairFigures w h mask first second)) Refused
 
 -- the paper's numbers of an answer
-abbrev pub paperOf : Pair → Paper PairFigures
-paperOf (Measured figures) = acceptedPaper figures
-paperOf (Refused r) = refusedPaper r noFigures
+abbrev pub paperOf : Pair → CountedPaper PairFigures
+paperOf (Measured figures) = acceptedCounted figures
+paperOf (Refused r) = refusedCounted r noFigures
 
 -- the paper's numbers for all inputs
-unfoldable pub pairPaper : ℕ → ℕ → ℕ → List ℕ → List ℕ → List ℕ → Paper PairFigures
+unfoldable pub pairPaper : ℕ → ℕ → ℕ → List ℕ → List ℕ → List ℕ → CountedPaper PairFigures
 pairPaper w h full mask first second =
-    paperFor (pairVerdict w h full mask first second) (pairFigures w h mask first second) noFigures
+    countedFor (pairVerdict w h full mask first second) (pairFigures w h mask first second) noFigures

@@ -6,7 +6,7 @@ ghost use Rattle.laws.specs.Signed.{apart};
 ghost use Rattle.window.specs.View.{one, seen};
 ghost use Rattle.pair.specs.Walk.{totalsOf};
 ghost use Rattle.pair.specs.Figures.{spreadOf, figuresOf};
-ghost use Rattle.pair.specs.Pair.{framesVerdict, pairAnswer, paperOf, pairPaper};
+ghost use Rattle.pair.specs.Pair.{pairAnswer, paperOf, pairPaper};
 use verdict::Refusal;
 use verdict::Verdict;
 
@@ -37,26 +37,6 @@ struct Totals {
 struct Spread {
     n: u64,
     p: u64,
-}
-
-// Refusals 1, 2, 4, 5 and 6.
-fn judge(
-    width: usize,
-    height: usize,
-    full_scale: u64,
-    mask: &[u8],
-    first: &[u16],
-    second: &[u16],
-) -> Verdict
-    ensures { λ r. ⌜ r ≡ framesVerdict width height «full_scale» (now (mask .entry)) (now (first .entry)) (now (second .entry)) ⌝ }
-{
-    let of_first = refusals::length(width, height, first.len());
-    let of_second = refusals::length(width, height, second.len());
-    let lengths = verdict::then(of_first, of_second);
-    let masked = refusals::judge_mask(width, height, full_scale, Verdict::Clear, mask, lengths);
-    let over_first = refusals::samples(width, height, full_scale, mask, first);
-    let over_second = refusals::samples(width, height, full_scale, mask, second);
-    verdict::then(masked, verdict::then(over_first, over_second))
 }
 
 // |d| of two samples, at 16 bits: with exact::apart, at 64, the walk takes twice the time.
@@ -149,7 +129,7 @@ pub fn pair_figures(
     ensures answer { λ r. ⌜ r ≡ pairAnswer width height «full_scale» (now (mask .entry)) (now (first .entry)) (now (second .entry)) ⌝ }
     ensures paper { λ r. ⌜ paperOf r ≡ pairPaper width height «full_scale» (now (mask .entry)) (now (first .entry)) (now (second .entry)) ⌝ }
 {
-    let frames = judge(width, height, full_scale, mask, first, second);
+    let frames = refusals::judge_frames(width, height, full_scale, mask, first, second);
     if let Verdict::Refused(refusal) = frames {
         return Pair::Refused(refusal);
     }

@@ -19,7 +19,8 @@ use Rattle.window.specs.View.{codeAbove, surveyed, seen, above}
 use Rattle.window.proofs.Sides.{frame-count, Sides, Scale, sides, scale}
 use Rattle.window.proofs.Views.{seen-is, seen-in}
 use Rattle.refusals.specs.Judge.{otherThan, lengthOf, maskVerdict}
-use Rattle.refusals.proofs.Chains.{length-clear, in-range}
+use Rattle.refusals.proofs.Chains.{length-clear}
+use Rattle.refusals.proofs.Ranges.{in-range}
 use Rattle.refusals.proofs.Judges.{codesTest, mask-clear, mask-tabled}
 use Rattle.pattern.specs.Lines.{Lines, lineTotal}
 use Rattle.pattern.specs.Pattern.{unsurveyed, patternVerdict, patternFigures, patternAnswer, paperOf, patternPaper}
@@ -59,12 +60,12 @@ module _ (vertical : Bool) (w h full k : ℕ) (mask sums : List ℕ) where
       then-same (maskVerdict w h full (refuseIf 3 0 (badCount k)) mask (lengthOf w h (length sums))) (λ e.
       let lent = mask-clear w h full mask e in
       let high = scale full (lent .2 .scaled) .high in
-      let few = frame-count k (unless 3 0 (badCount k) (lent .0)) .high in
+      let few = frame-count k (unless _ (badCount k) (lent .0)) .high in
       rw (some-unsurveyed (length mask) mask, lent .2 .masked, length-clear (sitesOf w h) (length sums) (lent .1), count-is vertical w h)
       (then-same (refuseIf 8 0 (someTo (sitesOf w h) (unsurveyed mask))) (λ u.
       ap (λ (n : ℕ). refuseIf 9 0 (ltb (lineOf vertical h w) 12) ⨟ refuseIf 11 0 (ltb n (sitesOf w h)))
       (first-ext (sitesOf w h) (above most (held sums)) (above (k * full) (seen mask sums))
-      (λ i j. ap₂ ltb (product high few) (sums-seen (sitesOf w h) mask sums (unless 8 0 (someTo (sitesOf w h) (unsurveyed mask)) u) i j))))))
+      (λ i j. ap₂ ltb (product high few) (sums-seen (sitesOf w h) mask sums (unless _ (someTo (sitesOf w h) (unsurveyed mask)) u) i j))))))
 
 module _ (lines : ℕ → ℕ → Lines) (w h full k : ℕ) (mask sums : List ℕ) where
   -- the tests in the order of document 01
@@ -105,16 +106,16 @@ module _ (vertical : Bool) (w h full k : ℕ) (mask sums : List ℕ) where
       let last = then-clear _ _ (surveyed .1) in
       let legal = sides w h (lent .2 .legal) in
       let range = scale full (lent .2 .scaled) in
-      let count = frame-count k (unless 3 0 (badCount k) (lent .0)) in
+      let count = frame-count k (unless _ (badCount k) (lent .0)) in
       let seeing : (i : ℕ) → i < h * w → held sums i ≡ seen mask sums i =
-      λ i l. sums-seen n mask sums (unless 8 0 (someTo n (unsurveyed mask)) (surveyed .0)) i (omega (arith, legal .sites)) in
+      λ i l. sums-seen n mask sums (unless _ (someTo n (unsurveyed mask)) (surveyed .0)) i (omega (arith, legal .sites)) in
       let most : (i : ℕ) → i < h * w → seen mask sums i ≤ k * full =
-      λ i l. in-range n (k * full) (seen mask sums) (unless 11 0 (someTo n (above (k * full) (seen mask sums))) (last .1)) i (omega (arith, legal .sites)) in
+      λ i l. in-range n (k * full) (seen mask sums) (unless _ (someTo n (above (k * full) (seen mask sums))) (last .1)) i (omega (arith, legal .sites)) in
       record {
         legal = legal;
         range = range;
         some = count .low;
-        enough = rw (← count-is vertical w h) (ltb-false (lined vertical w h .count) 12 (unless 9 0 (ltb (lined vertical w h .count) 12) (last .0)));
+        enough = rw (← count-is vertical w h) (ltb-false (lined vertical w h .count) 12 (unless _ (ltb (lined vertical w h .count) 12) (last .0)));
         fair = record {
           wide = legal .wide .high;
           high = legal .high .high;

@@ -15,7 +15,7 @@ use Rattle.laws.proofs.Cases.{true-or-false, both-ways}
 use Rattle.laws.proofs.Firsts.{some-none, nowhere-from}
 use Rattle.laws.proofs.Sums.{sum-ext}
 use Rattle.laws.proofs.Tables.{length-tabulate, getD-tabulate}
-use Rattle.verdict.specs.Verdict.{refusal, _⨟_, refuseIf, refuseFirst}
+use Rattle.verdict.specs.Verdict.{refusal, _⨟_, refuseWith, refuseIf, refuseFirst}
 use Rattle.verdict.specs.declared.Verdict.{Verdict}
 use Rattle.verdict.specs.declared.Verdict.the-variants.{Clear, Refused}
 use Rattle.window.specs.Shape.{badSides, sitesOf}
@@ -78,7 +78,7 @@ pub data Twin : Verdict → Verdict → Type 0 where
   moved : {p q : ℕ} → Twin (Refused (refusal 5 p)) (Refused (refusal 5 q))
 
 twin-moved : (p q : ℕ) (applies : Bool) → Twin (refuseIf 5 p applies) (refuseIf 5 q applies)
-unfolding refuseIf
+unfolding refuseWith
 twin-moved p q true = moved
 twin-moved p q false = alike Clear
 

@@ -7,7 +7,7 @@ use lib.ListN.{length, getD}
 use Rattle.laws.specs.Table.{tabulate}
 use Rattle.laws.proofs.Tables.{getD-tabulate}
 use Rattle.laws.proofs.Sole.{Sole, sole}
-use Rattle.verdict.specs.Verdict.{_⨟_, refuseIf}
+use Rattle.verdict.specs.Verdict.{_⨟_, refuseWith}
 use Rattle.verdict.proofs.Verdicts.{Tabled, Refuses, refuses}
 use Rattle.verdict.proofs.Answers.{paper-told}
 use Rattle.window.specs.Shape.{badSide, badSides, sitesOf}
@@ -48,5 +48,5 @@ module _ (w h : ℕ) (bytes out : List ℕ) where
 -- and each of the 2^10 values occurs: as the first sample of five bytes
 pub occurs : (v : ℕ) → v < 1024
     → getD (unpackBuffer 2 2 (v / 4 ∷ v % 4 ∷ v % 4 ∷ v % 4 ∷ v % 4 ∷ []) (0 ∷ 0 ∷ 0 ∷ 0 ∷ [])) 0 0 ≡ v
-unfolding unpackBuffer unpackVerdict badSides badSide sitesOf refuseIf _⨟_ tabulate
+unfolding unpackBuffer unpackVerdict badSides badSide sitesOf refuseWith _⨟_ tabulate
 occurs v small = sample-occurs 2 4 v (omega arith)

@@ -1,13 +1,12 @@
 -- What the tests that calls share tell where they do not apply, and why a later test may be asked of whole buffers alone.
-use Prim.Native.Nat.{ℕ, min, _<_, _≤_}
+use Prim.Native.Nat.{ℕ, _<_, _≤_}
 use mathlib.Core.Bool.{false, not}
 use mathlib.Core.List.{List, [], _∷_}
 use mathlib.Core.Path.{_≡_, ap}
-use native.Mathlib.Omega.{arith}
-use lib.Dec.{eqb, ltb}
+use lib.Dec.{eqb}
 use lib.ListN.{length, getD}
 use borrow.Author.Tests.{eq-eqb, eqb-true, le-ltb, ltb-false, not-false}
-use Rattle.laws.specs.First.{firstTo}
+use Rattle.laws.specs.First.{someTo}
 use Rattle.laws.proofs.Firsts.{first-nowhere, nowhere-first}
 use Rattle.verdict.specs.Verdict.{_⨟_, refuseIf, refuseFirst}
 use Rattle.verdict.specs.declared.Verdict.{Verdict}
@@ -15,9 +14,9 @@ use Rattle.verdict.specs.declared.Verdict.the-variants.{Clear}
 use Rattle.verdict.proofs.Verdicts.{Tabled, test, tabled, then-same, then-clear, clear-then, unless, clear-unless}
 use Rattle.window.specs.Shape.{badSides, badScale, sitesOf}
 use Rattle.window.specs.Walk.{walked}
-use Rattle.window.specs.View.{badCode, above, seen}
+use Rattle.window.specs.View.{badCode}
 use Rattle.window.proofs.Walks.{walked-whole}
-use Rattle.refusals.specs.Judge.{shapeOf, otherThan, codesOf, samplesOf}
+use Rattle.refusals.specs.Judge.{shapeOf, otherThan, codesOf}
 
 -- 1 and 2
 module _ (w h full : ℕ) where
@@ -25,11 +24,11 @@ module _ (w h full : ℕ) where
   unfolding shapeOf
   shape-clear e =
       let both = then-clear (refuseIf 1 0 (badSides w h)) (refuseIf 2 0 (badScale full)) e in
-      (unless 1 0 (badSides w h) (both .0), unless 2 0 (badScale full) (both .1))
+      (unless _ (badSides w h) (both .0), unless _ (badScale full) (both .1))
 
   pub clear-shape : badSides w h ≡ false → badScale full ≡ false → shapeOf w h full ≡ Clear
   unfolding shapeOf
-  clear-shape legal scaled = clear-then (clear-unless 1 0 legal) (clear-unless 2 0 scaled)
+  clear-shape legal scaled = clear-then (clear-unless _ legal) (clear-unless _ scaled)
 
   pub shape-tabled : Tabled (shapeOf w h full) (test 1 0 (badSides w h) ∷ test 2 0 (badScale full) ∷ [])
   unfolding shapeOf
@@ -43,46 +42,27 @@ pub right-length : (needed long : ℕ) → long ≡ needed → otherThan needed 
 right-length needed long e = ap not (eq-eqb long needed e)
 
 pub length-clear : (needed long : ℕ) → refuseIf 4 0 (otherThan needed long) ≡ Clear → long ≡ needed
-length-clear needed long e = same-length needed long (unless 4 0 (otherThan needed long) e)
+length-clear needed long e = same-length needed long (unless _ (otherThan needed long) e)
 
 pub clear-length : (needed long : ℕ) → long ≡ needed → refuseIf 4 0 (otherThan needed long) ≡ Clear
-clear-length needed long e = clear-unless 4 0 (right-length needed long e)
+clear-length needed long e = clear-unless _ (right-length needed long e)
 
 -- 5 does not apply: every code is at most 3
 pub codes-clear : (n : ℕ) (mask : List ℕ) → codesOf n mask ≡ Clear → (i : ℕ) → i < n → getD mask i 0 ≤ 3
 unfolding refuseFirst
 codes-clear n mask e i l =
-    ltb-false 3 (getD mask i 0) (first-nowhere (badCode mask) n (unless 5 (firstTo n (badCode mask)) (ltb (firstTo n (badCode mask)) n) e) i l)
+    ltb-false 3 (getD mask i 0) (first-nowhere (badCode mask) n (unless _ (someTo n (badCode mask)) e) i l)
 
 pub clear-codes : (n : ℕ) (mask : List ℕ) → ((i : ℕ) → i < n → getD mask i 0 ≤ 3) → codesOf n mask ≡ Clear
 unfolding refuseFirst
-clear-codes n mask low = clear-unless 5 (firstTo n (badCode mask)) (nowhere-first (badCode mask) n (λ i l. le-ltb 3 (getD mask i 0) (low i l)))
-
--- 6 does not apply: nothing that is seen is above full scale
-pub in-range : (n full : ℕ) (view : ℕ → ℕ) → ltb (firstTo n (above full view)) n ≡ false → (i : ℕ) → i < n → view i ≤ full
-in-range n full view e i l = ltb-false full (view i) (first-nowhere (above full view) n e i l)
-
-pub samples-clear : (n full : ℕ) (view : ℕ → ℕ) → samplesOf n full view ≡ Clear → (i : ℕ) → i < n → view i ≤ full
-unfolding refuseFirst
-samples-clear n full view e = in-range n full view (unless 6 (firstTo n (above full view)) (ltb (firstTo n (above full view)) n) e)
-
-pub clear-samples : (n full : ℕ) (view : ℕ → ℕ) → ((i : ℕ) → i < n → view i ≤ full) → samplesOf n full view ≡ Clear
-unfolding refuseFirst
-clear-samples n full view low = clear-unless 6 (firstTo n (above full view)) (nowhere-first (above full view) n (λ i l. le-ltb full (view i) (low i l)))
+clear-codes n mask low = clear-unless _ (nowhere-first (badCode mask) n (λ i l. le-ltb 3 (getD mask i 0) (low i l)))
 
 -- what follows 4 is judged only of a buffer of the length needed
 pub measured : (needed long : ℕ) {b d : Verdict} → (long ≡ needed → b ≡ d)
     → refuseIf 4 0 (otherThan needed long) ⨟ b ≡ refuseIf 4 0 (otherThan needed long) ⨟ d
 measured needed long f = then-same (refuseIf 4 0 (otherThan needed long)) (λ e. f (length-clear needed long e))
 
--- so what `codes` and `samples` walk there is the whole window
+-- so what `codes` walks there is the whole window
 pub codes-whole : (w h : ℕ) (mask : List ℕ) → length mask ≡ sitesOf w h
     → codesOf (walked w h (length mask)) mask ≡ codesOf (sitesOf w h) mask
 codes-whole w h mask e = rw (walked-whole w h (length mask) e)
-
-pub samples-whole : (w h full : ℕ) (mask frame : List ℕ) → length mask ≡ sitesOf w h → length frame ≡ sitesOf w h
-    → samplesOf (min (walked w h (length mask)) (walked w h (length frame))) full (seen mask frame) ≡ samplesOf (sitesOf w h) full (seen mask frame)
-samples-whole w h full mask frame e f =
-    let n : min (walked w h (length mask)) (walked w h (length frame)) ≡ sitesOf w h =
-    omega (arith, walked-whole w h (length mask) e, walked-whole w h (length frame) f) in
-    ap (λ (k : ℕ). samplesOf k full (seen mask frame)) n

@@ -1,9 +1,10 @@
 -- The refusals that calls share: what passes 1 to 5, or 1 to 6, what is judged after them, and the table that they are.
-use Prim.Native.Nat.{ℕ, min, _<_, _≤_}
+use Prim.Native.Nat.{ℕ, _<_, _≤_}
 use mathlib.Core.Bool.{false}
 use mathlib.Core.List.{List, [], _∷_, _++_}
 use mathlib.Core.Path.{_≡_, ap, ap₂, _∙_}
 use lib.ListN.{length, getD}
+use Rattle.laws.specs.First.{countTo}
 use Rattle.verdict.specs.Verdict.{_⨟_, refuseFirst}
 use Rattle.verdict.specs.declared.Verdict.{Verdict}
 use Rattle.verdict.specs.declared.Verdict.the-variants.{Clear}
@@ -11,15 +12,14 @@ use Rattle.verdict.proofs.Verdicts.{Test, Tabled, test, testFirst, tabled, tabl
 use Rattle.window.specs.Shape.{badSides, badScale, sitesOf}
 use Rattle.window.specs.Walk.{walked}
 use Rattle.window.specs.View.{badCode, above, seen}
-use Rattle.refusals.specs.Judge.{shapeOf, otherThan, lengthOf, codesOf, samplesOf, maskVerdict, frameVerdict}
-use Rattle.refusals.proofs.Chains.{shape-clear, clear-shape, shape-tabled, length-clear, clear-length, codes-clear, clear-codes, samples-clear, clear-samples, measured, codes-whole, samples-whole}
+use Rattle.refusals.specs.Judge.{shapeOf, otherThan, lengthOf, codesOf, overIn, samplesOf, rangeOf, maskVerdict, frameVerdict}
+use Rattle.refusals.specs.Walk.{ranged}
+use Rattle.refusals.proofs.Chains.{shape-clear, clear-shape, shape-tabled, length-clear, clear-length, codes-clear, clear-codes, measured, codes-whole}
+use Rattle.refusals.proofs.Ranges.{none, more, range-head, samples-clear, clear-samples, rangeTests, samples-tabled, range-one, ranged-whole}
 
--- 5 and 6 as tests of a table, at the first of n sites
+-- 5 as a test of a table, at the first of n sites
 abbrev pub codesTest : ℕ → List ℕ → Test
-codesTest n mask = testFirst 5 n (badCode mask)
-
-abbrev pub samplesTest : ℕ → ℕ → (ℕ → ℕ) → Test
-samplesTest n full view = testFirst 6 n (above full view)
+codesTest n mask = testFirst 5 0 n (badCode mask)
 
 -- a mask in a window that 1 to 5 do not refuse
 pub record Masked (w h full : ℕ) (mask : List ℕ) : Type 0 where
@@ -96,23 +96,25 @@ module _ (w h full : ℕ) (mask frame : List ℕ) where
         let all = then-clear _ _ e in
         let masked = mask-clear w h full mask (all .0) in
         let lent = then-clear _ _ (masked .1) in
-        (masked .0, lent .1, record { of = masked .2; framed = length-clear (sitesOf w h) (length frame) (lent .0); range = samples-clear (sitesOf w h) full (seen mask frame) (all .1) })
+        let range = samples-clear (overIn (sitesOf w h) full (seen mask frame ∷ [])) (sitesOf w h) full (seen mask frame ∷ []) (all .1) in
+        (masked .0, lent .1, record { of = masked .2; framed = length-clear (sitesOf w h) (length frame) (lent .0); range = range-head range })
 
     pub clear-frame : Framed w h full mask frame → parameters ≡ Clear → lengths ≡ Clear → frameVerdict w h full parameters mask frame lengths ≡ Clear
     unfolding frameVerdict
     clear-frame f p l =
         clear-then (clear-mask w h full mask (f .of) p (clear-then (clear-length (sitesOf w h) (length frame) (f .framed)) l))
-        (clear-samples (sitesOf w h) full (seen mask frame) (f .range))
+        (clear-samples (overIn (sitesOf w h) full (seen mask frame ∷ [])) (sitesOf w h) full (more (f .range) none))
 
-  pub frame-judged : (parameters lengths : Verdict)
+  pub frame-judged : (parameters lengths : Verdict) (n : ℕ) → n ≡ ranged w h full (length mask) (length frame)
       → maskVerdict w h full parameters mask (lengthOf w h (length frame) ⨟ lengths)
-      ⨟ samplesOf (min (walked w h (length mask)) (walked w h (length frame))) full (seen mask frame)
+      ⨟ samplesOf (countTo n (above full (seen mask frame))) n full (seen mask frame)
       ≡ frameVerdict w h full parameters mask frame lengths
   unfolding frameVerdict
-  frame-judged parameters lengths =
+  frame-judged parameters lengths n p =
       then-same (maskVerdict w h full parameters mask (lengthOf w h (length frame) ⨟ lengths)) (λ e.
       let masked = mask-clear w h full mask e in
-      samples-whole w h full mask frame (masked .2 .masked) (length-clear (sitesOf w h) (length frame) (then-clear _ _ (masked .1) .0)))
+      let long = length-clear (sitesOf w h) (length frame) (then-clear _ _ (masked .1) .0) in
+      rw (p, ranged-whole w h full (length mask) (length frame) (masked .2 .scaled) (masked .2 .masked) long) (range-one w h full (seen mask frame)))
 
   pub frame-of : {r p l p′ l′ : Verdict} → r ≡ frameVerdict w h full p mask frame l → p ≡ p′ → l ≡ l′ → r ≡ frameVerdict w h full p′ mask frame l′
   frame-of e f g = e ∙ ap₂ (λ (p l : Verdict). frameVerdict w h full p mask frame l) f g
@@ -120,15 +122,15 @@ module _ (w h full : ℕ) (mask frame : List ℕ) where
   pub frame-lent : (p : Verdict) {l l′ : Verdict} → (badSides w h ≡ false → l ≡ l′) → frameVerdict w h full p mask frame l ≡ frameVerdict w h full p mask frame l′
   unfolding frameVerdict
   frame-lent p f =
-      ap (λ (v : Verdict). v ⨟ samplesOf (sitesOf w h) full (seen mask frame))
+      ap (λ (v : Verdict). v ⨟ rangeOf w h full (seen mask frame ∷ []))
       (mask-lent w h full mask p (λ legal. ap (λ (v : Verdict). lengthOf w h (length frame) ⨟ v) (f legal)))
 
   abbrev pub frame-tests : List Test → List Test → List Test
   frame-tests parameters lengths =
       mask-tests w h full mask parameters (test 4 0 (otherThan (sitesOf w h) (length frame)) ∷ lengths)
-      ++ (samplesTest (sitesOf w h) full (seen mask frame) ∷ [])
+      ++ rangeTests (overIn (sitesOf w h) full (seen mask frame ∷ [])) (sitesOf w h) full (seen mask frame ∷ [])
 
   pub frame-tabled : {parameters lengths : Verdict} {ps ls : List Test} → Tabled parameters ps → Tabled lengths ls
       → Tabled (frameVerdict w h full parameters mask frame lengths) (frame-tests ps ls)
-  unfolding frameVerdict refuseFirst
-  frame-tabled p l = tabled-then (mask-tabled w h full mask p (tabled-then (tabled _ []) l)) (tabled _ [])
+  unfolding frameVerdict
+  frame-tabled p l = tabled-then (mask-tabled w h full mask p (tabled-then (tabled _ []) l)) (samples-tabled _ _ _ _)

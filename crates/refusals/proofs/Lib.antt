@@ -1,3 +1,5 @@
 pub mod Searches
 pub mod Chains
+pub mod Ranges
 pub mod Judges
+pub mod Frames

@@ -8,7 +8,7 @@ use lib.Arith.{digits-lt}
 use lib.Dec.{ltb}
 use Rattle.laws.specs.First.{firstTo, someTo}
 use Rattle.laws.proofs.Firsts.{first-none, first-past, first-here}
-use Rattle.verdict.specs.Verdict.{refuseIf, refuseFirst}
+use Rattle.verdict.specs.Verdict.{refusalOver, refuseWith, refuseFirst}
 use Rattle.verdict.specs.declared.Verdict.the-variants.{Clear}
 
 -- row y begins, and nothing was found before it
@@ -48,17 +48,18 @@ module _ {test : ℕ → Bool} {w y x at : ℕ} (s : AtSite test w y x at) where
   pub search-stops : {h : ℕ} → y < h → x < w → test at ≡ true → at ≡ firstTo (h * w) test
   search-stops {h} hy hx t = sym (first-here test (h * w) at (site-in hy hx) (s .none) t)
 
--- nothing is refused of no site
-pub none-walked : (k n : ℕ) (test : ℕ → Bool) → n ≡ 0 → Clear ≡ refuseFirst k n test
-unfolding refuseFirst refuseIf
-none-walked k n test e = rw (e, first-none)
+module _ (k over : ℕ) (test : ℕ → Bool) where
+  -- nothing is refused of no site
+  pub none-walked : (n : ℕ) → n ≡ 0 → Clear ≡ refuseFirst k over n test
+  unfolding refuseFirst refuseWith
+  none-walked n e = rw (e, first-none)
 
--- nor where the test holds at none
-pub none-found : (k n m : ℕ) (test : ℕ → Bool) → m ≡ n → someTo n test ≡ false → Clear ≡ refuseFirst k m test
-unfolding refuseFirst refuseIf
-none-found k n m test p e = rw (p, e)
+  -- nor where the test holds at none
+  pub none-found : (n m : ℕ) → m ≡ n → someTo n test ≡ false → Clear ≡ refuseFirst k over m test
+  unfolding refuseFirst refuseWith
+  none-found n m p e = rw (p, e)
 
--- what a search over the n sites found is given, however n was come by
-pub found : (k n m i at : ℕ) (test : ℕ → Bool) → i ≡ n → m ≡ n → at ≡ firstTo n test → refuseIf k at (ltb at i) ≡ refuseFirst k m test
-unfolding refuseFirst
-found k n m i at test p q f = rw (f, p, q)
+  -- what a search over the n sites found is given, however n was come by
+  pub found : (n m i at : ℕ) → i ≡ n → m ≡ n → at ≡ firstTo n test → refuseWith (refusalOver k at over) (ltb at i) ≡ refuseFirst k over m test
+  unfolding refuseFirst
+  found n m i at p q f = rw (f, p, q)

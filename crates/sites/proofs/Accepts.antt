@@ -11,7 +11,8 @@ use Rattle.window.specs.Shape.{badSides, badScale, sitesOf}
 use Rattle.window.specs.View.{seen}
 use Rattle.refusals.specs.Judge.{otherThan}
 use Rattle.refusals.proofs.Chains.{length-clear, clear-length}
-use Rattle.refusals.proofs.Judges.{codesTest, samplesTest, Framed, frame-clear, clear-frame, frame-tabled}
+use Rattle.refusals.proofs.Ranges.{samplesTest}
+use Rattle.refusals.proofs.Judges.{codesTest, Framed, frame-clear, clear-frame, frame-tabled}
 use Rattle.sites.specs.Find.{findVerdict}
 use Rattle.sites.specs.Repair.{repairVerdict}
 
@@ -27,7 +28,7 @@ module _ (w h full t : ℕ) (mask frame : List ℕ) (out : ℕ) where
       ∷ test 4 0 (otherThan (sitesOf w h) (length frame))
       ∷ test 4 0 (otherThan (sitesOf w h) out)
       ∷ codesTest (sitesOf w h) mask
-      ∷ samplesTest (sitesOf w h) full (seen mask frame)
+      ∷ samplesTest w h full (seen mask frame ∷ []) (seen mask frame)
       ∷ []
 
   pub find-table : Tabled (findVerdict w h full t mask frame out) find-tests
@@ -39,11 +40,11 @@ module _ (w h full t : ℕ) (mask frame : List ℕ) (out : ℕ) where
   unfolding findVerdict
   find-accepted e =
       let lent = frame-clear w h full mask frame e in
-      (lent .2, ltb-false 4095 t (unless 3 0 (ltb 4095 t) (lent .0)), length-clear (sitesOf w h) out (lent .1))
+      (lent .2, ltb-false 4095 t (unless _ (ltb 4095 t) (lent .0)), length-clear (sitesOf w h) out (lent .1))
 
   pub find-clear : Framed w h full mask frame → t ≤ 4095 → out ≡ sitesOf w h → findVerdict w h full t mask frame out ≡ Clear
   unfolding findVerdict
-  find-clear a few long = clear-frame w h full mask frame a (clear-unless 3 0 (le-ltb 4095 t few)) (clear-length (sitesOf w h) out long)
+  find-clear a few long = clear-frame w h full mask frame a (clear-unless _ (le-ltb 4095 t few)) (clear-length (sitesOf w h) out long)
 
 -- a repair: the frame and the mask that are written
 module _ (w h full : ℕ) (mask frame : List ℕ) (outFrame outMask : ℕ) where
@@ -57,7 +58,7 @@ module _ (w h full : ℕ) (mask frame : List ℕ) (outFrame outMask : ℕ) where
       ∷ test 4 0 (otherThan (sitesOf w h) outFrame)
       ∷ test 4 0 (otherThan (sitesOf w h) outMask)
       ∷ codesTest (sitesOf w h) mask
-      ∷ samplesTest (sitesOf w h) full (seen mask frame)
+      ∷ samplesTest w h full (seen mask frame ∷ []) (seen mask frame)
       ∷ []
 
   pub repair-table : Tabled (repairVerdict w h full mask frame outFrame outMask) repair-tests

@@ -6,6 +6,7 @@ use mathlib.Core.Path.{_≡_, refl, ap, _∙_}
 use native.Mathlib.Omega.{arith}
 use lib.ListN.{length, getD}
 use borrow.Author.Tests.{ne-eqb}
+use Rattle.laws.specs.First.{countTo}
 use Rattle.laws.specs.Table.{tabulate}
 use Rattle.laws.proofs.Sums.{sum-zero}
 use Rattle.laws.proofs.Tables.{getD-tabulate}
@@ -13,13 +14,14 @@ use Rattle.laws.proofs.Sole.{Sole, sole}
 use Rattle.verdict.specs.Verdict.{ifClear}
 use Rattle.verdict.specs.Answer.{answerOf}
 use Rattle.verdict.specs.declared.Verdict.the-variants as verdict
-use Rattle.verdict.proofs.Verdicts.{Tabled, Refuses, refuses}
-use Rattle.verdict.proofs.Answers.{paper-told}
+use Rattle.verdict.proofs.Verdicts.{Tabled, RefusesCounting, refuses, over-at-six}
+use Rattle.verdict.proofs.Answers.{counted-told}
 use Rattle.window.specs.Shape.{sitesOf}
-use Rattle.window.specs.View.{seenAt, seen}
+use Rattle.window.specs.View.{seenAt, seen, above}
 use Rattle.window.proofs.Sides.{sides}
 use Rattle.window.proofs.Views.{Agree, same-view, seen-out}
 use Rattle.refusals.specs.Judge.{frameVerdict}
+use Rattle.refusals.proofs.Ranges.{one-counting}
 use Rattle.sites.specs.Find.{usedThreshold, foundAt, markedAt, foundCount, findVerdict, findAnswer, findPaperOf, findPaper, findMask}
 use Rattle.sites.specs.declared.Defects.{Defects}
 use Rattle.sites.specs.declared.Defects.the-variants.{Found, Refused}
@@ -33,7 +35,7 @@ module _ (w h full t : ℕ) (mask frame out : List ℕ) where
   pub only : Sole (findAnswer w h full t mask frame (length out)) × Sole (findMask w h full t mask frame out)
   only = (sole _, sole _)
 
-  -- blind: what the frame holds at sites that are not surveyed changes neither the answer nor the mask
+  -- blind: what the frame holds at sites that are not surveyed changes neither the answer, its counts among it, nor the mask
   pub blind : (other : List ℕ) → Agree mask frame other
       → (findAnswer w h full t mask frame (length out) ≡ findAnswer w h full t mask other (length out))
       × (findMask w h full t mask frame out ≡ findMask w h full t mask other out)
@@ -43,17 +45,21 @@ module _ (w h full t : ℕ) (mask frame out : List ℕ) where
   -- the paper's numbers are those of the answer
   pub paper-is : findPaperOf (findAnswer w h full t mask frame (length out)) ≡ findPaper w h full t mask frame (length out)
   unfolding findAnswer findPaper
-  paper-is = paper-told findPaperOf (findVerdict w h full t mask frame (length out)) refl (λ r. refl)
+  paper-is = counted-told findPaperOf (findVerdict w h full t mask frame (length out)) refl (λ r. refl)
 
   -- given: each refusal exactly as document 01 tables it, in that order (`find-tests` has the table)
   pub given : Tabled (findVerdict w h full t mask frame (length out)) (find-tests w h full t mask frame (length out))
   given = find-table w h full t mask frame (length out)
 
-  -- refused: where the number is not 0 the count is 0 and the mask is as it was, and where it is 0 so is the place
-  pub refused : Refuses (findPaper w h full t mask frame (length out) .number) (findPaper w h full t mask frame (length out) .place)
+  -- refused: where the number is not 0 the count is 0 and the mask is as it was, and where it is 0 so is the place. Where it is 6, over is
+  -- at least 1 and just the count of samples above full scale; else it is 0
+  pub refused : RefusesCounting (findPaper w h full t mask frame (length out)) (countTo (sitesOf w h) (above full (seen mask frame)))
       ((findPaper w h full t mask frame (length out) .figures ≡ 0) × (findMask w h full t mask frame out ≡ out))
   unfolding findPaper findMask
-  refused = refuses (findVerdict w h full t mask frame (length out)) given refl (λ r e. rw e (refl, refl))
+  refused = (
+    refuses (findVerdict w h full t mask frame (length out)) given refl (λ r e. rw e (refl, refl)),
+    over-at-six (findVerdict w h full t mask frame (length out)) given refl (one-counting w h full (seen mask frame)),
+  )
 
 -- a threshold above 0 is taken as it is
 pub used-as-given : (t : ℕ) → 0 < t → usedThreshold t ≡ t

@@ -7,19 +7,21 @@ use mathlib.Core.Path.{_≡_, refl, sym, ap, ap₂, _∙_}
 use native.Mathlib.Omega.{arith}
 use lib.ListN.{length, getD}
 use borrow.Author.Tests.{eq-eqb}
+use Rattle.laws.specs.First.{countTo}
 use Rattle.laws.specs.Sum.{sumTo}
 use Rattle.laws.specs.Table.{tabulate}
 use Rattle.laws.proofs.Sums.{sum-zero}
 use Rattle.laws.proofs.Tables.{length-tabulate, getD-tabulate, tabulated}
 use Rattle.laws.proofs.Sole.{Sole, sole}
 use Rattle.verdict.specs.declared.Verdict.the-variants as verdict
-use Rattle.verdict.proofs.Verdicts.{Tabled, Refuses, refuses}
-use Rattle.verdict.proofs.Answers.{paper-told}
+use Rattle.verdict.proofs.Verdicts.{Tabled, RefusesCounting, refuses, over-at-six}
+use Rattle.verdict.proofs.Answers.{counted-told}
 use Rattle.window.specs.Shape.{sitesOf}
-use Rattle.window.specs.View.{seenAt, seen, one}
+use Rattle.window.specs.View.{seenAt, seen, one, above}
 use Rattle.window.proofs.Sides.{sides}
 use Rattle.window.proofs.Views.{Agree, same-view, seen-is, one-is}
 use Rattle.refusals.specs.Judge.{frameVerdict}
+use Rattle.refusals.proofs.Ranges.{one-counting}
 use Rattle.refusals.proofs.Judges.{Framed}
 use Rattle.sites.specs.Near.{nearSum}
 use Rattle.sites.specs.Repair.{meanOf, filledAt, sampleAfter, codeAfter, filledCount, repairVerdict, repairAnswer, repairPaperOf, repairPaper, repairFrame, repairMask}
@@ -37,7 +39,7 @@ module _ (w h full : ℕ) (mask frame outFrame outMask : List ℕ) where
       × Sole (repairMask w h full mask frame (length outFrame) outMask)
   only = (sole _, sole _, sole _)
 
-  -- blind: what the frame holds at sites that are not surveyed changes neither the answer nor the mask
+  -- blind: what the frame holds at sites that are not surveyed changes neither the answer, its counts among it, nor the mask
   pub blind : (other : List ℕ) → Agree mask frame other
       → (repairAnswer w h full mask frame (length outFrame) (length outMask) ≡ repairAnswer w h full mask other (length outFrame) (length outMask))
       × (repairMask w h full mask frame (length outFrame) outMask ≡ repairMask w h full mask other (length outFrame) outMask)
@@ -47,19 +49,23 @@ module _ (w h full : ℕ) (mask frame outFrame outMask : List ℕ) where
   -- the paper's numbers are those of the answer
   pub paper-is : repairPaperOf (repairAnswer w h full mask frame (length outFrame) (length outMask)) ≡ repairPaper w h full mask frame (length outFrame) (length outMask)
   unfolding repairAnswer repairPaper
-  paper-is = paper-told repairPaperOf (repairVerdict w h full mask frame (length outFrame) (length outMask)) refl (λ r. refl)
+  paper-is = counted-told repairPaperOf (repairVerdict w h full mask frame (length outFrame) (length outMask)) refl (λ r. refl)
 
   -- given: each refusal exactly as document 01 tables it, in that order (`repair-tests` has the table)
   pub given : Tabled (repairVerdict w h full mask frame (length outFrame) (length outMask)) (repair-tests w h full mask frame (length outFrame) (length outMask))
   given = repair-table w h full mask frame (length outFrame) (length outMask)
 
-  -- refused: where the number is not 0 the count is 0 and both buffers are as they were, and where it is 0 so is the place
-  pub refused : Refuses (repairPaper w h full mask frame (length outFrame) (length outMask) .number) (repairPaper w h full mask frame (length outFrame) (length outMask) .place)
+  -- refused: where the number is not 0 the count is 0 and both buffers are as they were, and where it is 0 so is the place. Where it is 6,
+  -- over is at least 1 and just the count of samples above full scale; else it is 0
+  pub refused : RefusesCounting (repairPaper w h full mask frame (length outFrame) (length outMask)) (countTo (sitesOf w h) (above full (seen mask frame)))
       ((repairPaper w h full mask frame (length outFrame) (length outMask) .figures ≡ 0)
       × (repairFrame w h full mask frame outFrame (length outMask) ≡ outFrame)
       × (repairMask w h full mask frame (length outFrame) outMask ≡ outMask))
   unfolding repairPaper repairFrame repairMask
-  refused = refuses (repairVerdict w h full mask frame (length outFrame) (length outMask)) given refl (λ r e. rw e (refl, refl, refl))
+  refused = (
+    refuses (repairVerdict w h full mask frame (length outFrame) (length outMask)) given refl (λ r e. rw e (refl, refl, refl)),
+    over-at-six (repairVerdict w h full mask frame (length outFrame) (length outMask)) given refl (one-counting w h full (seen mask frame)),
+  )
 
 -- what an accepted call answers and leaves behind
 module _ (w h full : ℕ) (mask frame outFrame outMask : List ℕ) (accepted : repairVerdict w h full mask frame (length outFrame) (length outMask) ≡ verdict.Clear) where

@@ -8,7 +8,7 @@ use Rattle.laws.specs.Signed.{apart}
 use Rattle.laws.specs.Sum.{sumTo}
 use Rattle.laws.specs.Table.{tabulate}
 use Rattle.verdict.specs.Verdict.{refuseIf, ifClear}
-use Rattle.verdict.specs.Answer.{answerOf, Paper, acceptedPaper, refusedPaper, paperFor}
+use Rattle.verdict.specs.Answer.{answerOf, CountedPaper, acceptedCounted, refusedCounted, countedFor}
 use Rattle.verdict.specs.declared.Verdict.{Verdict}
 use Rattle.window.specs.Shape.{sitesOf}
 use Rattle.window.specs.View.{defect, seenAt, seen, one}
@@ -57,14 +57,14 @@ findAnswer w h full t mask frame out =
     answerOf (findVerdict w h full t mask frame out) (Found (foundCount w h (usedThreshold t) mask (seen mask frame))) Refused
 
 -- the paper's numbers of an answer
-abbrev pub findPaperOf : Defects → Paper ℕ
-findPaperOf (Found count) = acceptedPaper count
-findPaperOf (Refused r) = refusedPaper r 0
+abbrev pub findPaperOf : Defects → CountedPaper ℕ
+findPaperOf (Found count) = acceptedCounted count
+findPaperOf (Refused r) = refusedCounted r 0
 
 -- the paper's numbers for all inputs
-unfoldable pub findPaper : ℕ → ℕ → ℕ → ℕ → List ℕ → List ℕ → ℕ → Paper ℕ
+unfoldable pub findPaper : ℕ → ℕ → ℕ → ℕ → List ℕ → List ℕ → ℕ → CountedPaper ℕ
 findPaper w h full t mask frame out =
-    paperFor (findVerdict w h full t mask frame out) (foundCount w h (usedThreshold t) mask (seen mask frame)) 0
+    countedFor (findVerdict w h full t mask frame out) (foundCount w h (usedThreshold t) mask (seen mask frame)) 0
 
 -- the output mask afterwards, or as it was
 unfoldable pub findMask : ℕ → ℕ → ℕ → ℕ → List ℕ → List ℕ → List ℕ → List ℕ

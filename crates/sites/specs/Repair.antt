@@ -7,7 +7,7 @@ use lib.ListN.{length, getD}
 use Rattle.laws.specs.Sum.{sumTo}
 use Rattle.laws.specs.Table.{tabulate}
 use Rattle.verdict.specs.Verdict.{_⨟_, ifClear}
-use Rattle.verdict.specs.Answer.{answerOf, Paper, acceptedPaper, refusedPaper, paperFor}
+use Rattle.verdict.specs.Answer.{answerOf, CountedPaper, acceptedCounted, refusedCounted, countedFor}
 use Rattle.verdict.specs.declared.Verdict.{Verdict}
 use Rattle.verdict.specs.declared.Verdict.the-variants as verdict
 use Rattle.window.specs.Shape.{sitesOf}
@@ -54,14 +54,14 @@ repairAnswer w h full mask frame outFrame outMask =
     answerOf (repairVerdict w h full mask frame outFrame outMask) (Filled (filledCount w h mask)) Refused
 
 -- the paper's numbers of an answer
-abbrev pub repairPaperOf : Repaired → Paper ℕ
-repairPaperOf (Filled count) = acceptedPaper count
-repairPaperOf (Refused r) = refusedPaper r 0
+abbrev pub repairPaperOf : Repaired → CountedPaper ℕ
+repairPaperOf (Filled count) = acceptedCounted count
+repairPaperOf (Refused r) = refusedCounted r 0
 
 -- the paper's numbers for all inputs
-unfoldable pub repairPaper : ℕ → ℕ → ℕ → List ℕ → List ℕ → ℕ → ℕ → Paper ℕ
+unfoldable pub repairPaper : ℕ → ℕ → ℕ → List ℕ → List ℕ → ℕ → ℕ → CountedPaper ℕ
 repairPaper w h full mask frame outFrame outMask =
-    paperFor (repairVerdict w h full mask frame outFrame outMask) (filledCount w h mask) 0
+    countedFor (repairVerdict w h full mask frame outFrame outMask) (filledCount w h mask) 0
 
 -- the output frame and the output mask afterwards, or as they were
 unfoldable pub repairFrame : ℕ → ℕ → ℕ → List ℕ → List ℕ → List ℕ → ℕ → List ℕ

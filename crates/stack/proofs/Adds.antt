@@ -17,7 +17,8 @@ use Rattle.window.specs.View.{seen}
 use Rattle.window.proofs.Sides.{scale}
 use Rattle.window.proofs.Views.{seen-is, seen-out}
 use Rattle.refusals.specs.Judge.{otherThan, frameVerdict}
-use Rattle.refusals.proofs.Judges.{codesTest, samplesTest, Framed, frame-clear, frame-tabled}
+use Rattle.refusals.proofs.Ranges.{samplesTest}
+use Rattle.refusals.proofs.Judges.{codesTest, Framed, frame-clear, frame-tabled}
 use Rattle.stack.specs.Sums.{stackLengths, impossibleIn, squared, added}
 use Rattle.stack.specs.Walk.{readable}
 use Rattle.stack.specs.Add.{addVerdict, addAnswer, addPaperOf, addPaper, addSums, addSquares}
@@ -37,7 +38,7 @@ module _ (w h full k : ℕ) (mask frame sums squares : List ℕ) where
       ∷ test 4 0 (otherThan (sitesOf w h) (length sums))
       ∷ test 4 0 (otherThan (sitesOf w h) (length squares))
       ∷ codesTest (sitesOf w h) mask
-      ∷ samplesTest (sitesOf w h) full (seen mask frame)
+      ∷ samplesTest w h full (seen mask frame ∷ []) (seen mask frame)
       ∷ test 11 0 (impossibleIn (sitesOf w h) full k (seen mask sums) (seen mask squares))
       ∷ test 12 0 (eqb k 100)
       ∷ []
@@ -55,7 +56,7 @@ module _ (w h full k : ℕ) (mask frame sums squares : List ℕ) where
   judged =
       then-same (frameVerdict w h full (refuseIf 3 0 (ltb 100 k)) mask frame (stackLengths w h (length sums) (length squares))) (λ e.
       let lent = frame-clear w h full mask frame e in
-      rw (asked-whole w h full k mask sums squares (lent .2 .of) (ltb-false 100 k (unless 3 0 (ltb 100 k) (lent .0))) (lent .1)))
+      rw (asked-whole w h full k mask sums squares (lent .2 .of) (ltb-false 100 k (unless _ (ltb 100 k) (lent .0))) (lent .1)))
 
   -- what is known of an accepted frame and the sums
   pub record Accepted : Type 0 where
@@ -70,13 +71,13 @@ module _ (w h full k : ℕ) (mask frame sums squares : List ℕ) where
       let both = then-clear _ _ e in
       let lent = frame-clear w h full mask frame (both .0) in
       let stacked = then-clear _ _ (both .1) in
-      let most = ltb-false 100 k (unless 3 0 (ltb 100 k) (lent .0)) in
-      let full-up = eqb-false k 100 (unless 12 0 (eqb k 100) (stacked .1)) in
+      let most = ltb-false 100 k (unless _ (ltb 100 k) (lent .0)) in
+      let full-up = eqb-false k 100 (unless _ (eqb k 100) (stacked .1)) in
       record {
         lent = lent .2;
         long = lengths-clear w h (length sums) (length squares) (lent .1);
         room = omega arith;
-        possible = all-possible (sitesOf w h) full k (seen mask sums) (seen mask squares) (unless 11 0 _ (stacked .0));
+        possible = all-possible (sitesOf w h) full k (seen mask sums) (seen mask squares) (unless _ _ (stacked .0));
       }
 
   -- so every sum has room for the frame's sample, and every sum of squares for its square

@@ -9,6 +9,7 @@ use lib.Dec.{leb}
 use lib.Ieee.{Float}
 use lib.ListN.{length, getD, replicate, length-replicate}
 use borrow.Author.Tests.{lt-leb}
+use Rattle.laws.specs.First.{countTo}
 use Rattle.laws.specs.Sum.{sumTo}
 use Rattle.laws.proofs.Tables.{getD-tabulate}
 use Rattle.laws.proofs.Sole.{Sole, sole}
@@ -16,16 +17,17 @@ use Rattle.exact.specs.Quotient.{floatZero}
 use Rattle.exact.specs.Bound.{ExactFloat, CloseTo}
 use Rattle.exact.proofs.Quotients.{quotient-near, quotient-zero}
 use Rattle.exact.proofs.Division.{exact-float}
-use Rattle.verdict.specs.Verdict.{_⨟_, refuseIf, ifClear}
+use Rattle.verdict.specs.Verdict.{refusal, _⨟_, refuseIf, ifClear}
 use Rattle.verdict.specs.declared.Refusal.{Refusal}
 use Rattle.verdict.specs.declared.Verdict.{Verdict}
 use Rattle.verdict.specs.declared.Verdict.the-variants as verdict
-use Rattle.verdict.proofs.Verdicts.{Tabled, Refuses, refuses, then-spare}
-use Rattle.verdict.proofs.Answers.{paper-told}
+use Rattle.verdict.proofs.Verdicts.{Tabled, Refuses, RefusesCounting, refuses, over-at-six, then-spare}
+use Rattle.verdict.proofs.Answers.{paper-told, counted-told}
 use Rattle.window.specs.Shape.{sitesOf}
-use Rattle.window.specs.View.{surveyed, seen, one}
+use Rattle.window.specs.View.{surveyed, seen, one, above}
 use Rattle.window.proofs.Views.{Agree, same-view, seen-is, seen-in, seen-out}
 use Rattle.refusals.specs.Judge.{frameVerdict}
+use Rattle.refusals.proofs.Ranges.{one-counting}
 use Rattle.refusals.proofs.Judges.{Masked}
 use Rattle.stack.specs.Sums.{squared, added, spread}
 use Rattle.stack.specs.Add.{addVerdict, addAnswer, addPaperOf, addPaper, addSums, addSquares}
@@ -48,17 +50,21 @@ module _ (w h full k : ℕ) (mask frame sums squares : List ℕ) where
   -- the paper's numbers are those of the answer
   pub add-paper-is : addPaperOf (addAnswer w h full k mask frame sums squares) ≡ addPaper w h full k mask frame sums squares
   unfolding addAnswer addPaper
-  add-paper-is = paper-told addPaperOf (addVerdict w h full k mask frame sums squares) refl (λ r. refl)
+  add-paper-is = counted-told addPaperOf (addVerdict w h full k mask frame sums squares) refl (λ r. refl)
 
   -- given: 1 to 6, 11 and 12 exactly as document 01 tables them, in that order (`Adds.tests` has the table)
   pub add-given : Tabled (addVerdict w h full k mask frame sums squares) (adds.tests w h full k mask frame sums squares)
   add-given = adds.table w h full k mask frame sums squares
 
-  -- refused: where the number is not 0 the count is 0 and both buffers are as they were, and where it is 0 so is the place
-  pub add-refused : Refuses (addPaper w h full k mask frame sums squares .number) (addPaper w h full k mask frame sums squares .place)
+  -- refused: where the number is not 0 the count is 0 and both buffers are as they were, and where it is 0 so is the place. Where it is 6,
+  -- over is at least 1 and just the count of samples above full scale; else it is 0
+  pub add-refused : RefusesCounting (addPaper w h full k mask frame sums squares) (countTo (sitesOf w h) (above full (seen mask frame)))
       ((addPaper w h full k mask frame sums squares .figures ≡ 0) × (addSums w h full k mask frame sums squares ≡ sums) × (addSquares w h full k mask frame sums squares ≡ squares))
   unfolding addPaper addSums addSquares
-  add-refused = refuses (addVerdict w h full k mask frame sums squares) add-given refl (λ r e. rw e (refl, refl, refl))
+  add-refused = (
+    refuses (addVerdict w h full k mask frame sums squares) add-given refl (λ r e. rw e (refl, refl, refl)),
+    over-at-six (addVerdict w h full k mask frame sums squares) add-given refl (one-counting w h full (seen mask frame)),
+  )
 
   -- other sites' sums stay, whatever is answered
   pub add-keeps : (i : ℕ) → (getD mask i 0 ≡ 0 → ⊥)
@@ -126,7 +132,7 @@ module _ (w h full k : ℕ) (mask sums squares : List ℕ) where
   pub variance-spare : varianceVerdict w h full k mask sums squares ⨟ refuseIf 14 0 (leb (2 ^ 53) (spread (sitesOf w h) k (seen mask sums) (seen mask squares)))
       ≡ varianceVerdict w h full k mask sums squares
   variance-spare =
-      then-spare (varianceVerdict w h full k mask sums squares) 14 0 (λ e.
+      then-spare (varianceVerdict w h full k mask sums squares) (refusal 14 0) (λ e.
       lt-leb (2 ^ 53) (spread (sitesOf w h) k (seen mask sums) (seen mask squares)) (variances.exact w h full k mask sums squares (variances.accepted w h full k mask sums squares e)))
 
   -- of an accepted variance: no s² is above its k × q, so no difference of the numerator is cut off at 0

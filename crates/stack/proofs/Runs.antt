@@ -180,8 +180,8 @@ module _ (w h full : ℕ) (mask : List ℕ) where
     unfolding addVerdict
     takes-more a r few f b =
         clear-then
-        (clear-frame w h full mask f (record { of = a; framed = b .long; range = b .ranged }) (clear-unless 3 0 (le-ltb 100 (length fs) (omega arith))) stack-long)
-        (clear-then (clear-unless 11 0 (possible-in r)) (clear-unless 12 0 (ne-eqb (length fs) 100 (λ e. omega arith))))
+        (clear-frame w h full mask f (record { of = a; framed = b .long; range = b .ranged }) (clear-unless _ (le-ltb 100 (length fs) (omega arith))) stack-long)
+        (clear-then (clear-unless _ (possible-in r)) (clear-unless _ (ne-eqb (length fs) 100 (λ e. omega arith))))
 
   -- a run of at most 100 frames in range is accepted
   pub run-clear : Masked w h full mask → (fs : List (List ℕ)) → AllInRange (sitesOf w h) full mask fs → length fs ≤ 100 → runVerdict w h full mask fs ≡ verdict.Clear
@@ -233,10 +233,10 @@ module _ (w h full : ℕ) (mask : List ℕ) where
   unfolding varianceVerdict badCount tooFew
   variance-clear a fs r least most some =
       clear-then
-      (clear-mask w h full mask a (clear-unless 3 0 (rw (ne-eqb (length fs) 0 (λ e. omega arith)) (le-ltb 100 (length fs) most))) (stack-long fs))
+      (clear-mask w h full mask a (clear-unless _ (rw (ne-eqb (length fs) 0 (λ e. omega arith)) (le-ltb 100 (length fs) most))) (stack-long fs))
       (clear-then
-      (clear-unless 7 0 (rw (ne-eqb (sumTo (sitesOf w h) (one mask)) 0 (λ e. omega arith)) (le-ltb (length fs) 2 least)))
-      (clear-unless 11 0 (possible-in fs r)))
+      (clear-unless _ (rw (ne-eqb (sumTo (sitesOf w h) (one mask)) 0 (λ e. omega arith)) (le-ltb (length fs) 2 least)))
+      (clear-unless _ (possible-in fs r)))
 
 -- k equal samples p have k × (k × p²) = (k × p)²
 equal-none : (k p : ℕ) → k * (k * (p * p)) - k * p * (k * p) ≡ 0

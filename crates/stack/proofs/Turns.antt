@@ -14,7 +14,7 @@ use Rattle.laws.proofs.Cases.{lt-or-ge, true-or-false, times-le}
 use Rattle.laws.proofs.Firsts.{some-none, some-more}
 use Rattle.laws.proofs.Sums.{sum-more, sum-ext, sum-scaled, sum-add, sum-times}
 use Rattle.laws.proofs.Tables.{Filling, filling-rest, filling-more, length-tabulate, getD-tabulate}
-use Rattle.verdict.specs.Verdict.{refuseIf}
+use Rattle.verdict.specs.Verdict.{refuseWith, refuseIf}
 use Rattle.verdict.specs.declared.Verdict.the-variants.{Clear}
 use Rattle.window.specs.View.{surveyed, seenAt, seen}
 use Rattle.window.proofs.Views.{seen-is, seen-in}
@@ -97,7 +97,7 @@ module _ (full k : ℕ) (mask sums squares : List ℕ) where
   pub not-asked : readable full k (length mask) (length sums) (length squares) ≡ false
       → Clear
       ≡ refuseIf 11 0 (readable full k (length mask) (length sums) (length squares) && impossibleIn (length mask) full k (seen mask sums) (seen mask squares))
-  unfolding refuseIf
+  unfolding refuseWith
   not-asked e = rw e
 
 -- a sum has room for what is seen, where as much as is seen of it does: where it is not surveyed, nothing is added

@@ -85,7 +85,7 @@ module _ (w h full k : ℕ) (mask sums squares : List ℕ) where
   judged count n =
       then-same (maskVerdict w h full (refuseIf 3 0 (badCount k)) mask (stackLengths w h (length sums) (length squares))) (λ e.
       let lent = mask-clear w h full mask e in
-      let asked = asked-whole w h full k mask sums squares (lent .2) (frame-count k (unless 3 0 (badCount k) (lent .0)) .high) (lent .1) in
+      let asked = asked-whole w h full k mask sums squares (lent .2) (frame-count k (unless _ (badCount k) (lent .0)) .high) (lent .1) in
       rw (asked, n, walked-whole w h (length mask) (lent .2 .masked)))
 
   -- what sums are that are not refused
@@ -103,14 +103,14 @@ module _ (w h full k : ℕ) (mask sums squares : List ℕ) where
       let both = then-clear _ _ e in
       let lent = mask-clear w h full mask (both .0) in
       let stacked = then-clear _ _ (both .1) in
-      let some = enough (sumTo (sitesOf w h) (one mask)) k (unless 7 0 _ (stacked .0)) in
+      let some = enough (sumTo (sitesOf w h) (one mask)) k (unless _ _ (stacked .0)) in
       record {
         lent = lent .2;
         long = lengths-clear w h (length sums) (length squares) (lent .1);
-        most = frame-count k (unless 3 0 (badCount k) (lent .0)) .high;
+        most = frame-count k (unless _ (badCount k) (lent .0)) .high;
         least = some .1;
         some = some .0;
-        possible = all-possible (sitesOf w h) full k (seen mask sums) (seen mask squares) (unless 11 0 _ (stacked .1));
+        possible = all-possible (sitesOf w h) full k (seen mask sums) (seen mask squares) (unless _ _ (stacked .1));
       }
 
   -- so the quotient is of two numbers that have exact floats

@@ -4,7 +4,7 @@ use mathlib.Core.List.{List}
 use lib.Dec.{eqb, ltb}
 use lib.ListN.{length}
 use Rattle.verdict.specs.Verdict.{_⨟_, refuseIf, ifClear}
-use Rattle.verdict.specs.Answer.{answerOf, Paper, acceptedPaper, refusedPaper, paperFor}
+use Rattle.verdict.specs.Answer.{answerOf, CountedPaper, acceptedCounted, refusedCounted, countedFor}
 use Rattle.verdict.specs.declared.Verdict.{Verdict}
 use Rattle.window.specs.Shape.{sitesOf}
 use Rattle.window.specs.View.{seen}
@@ -25,13 +25,13 @@ unfoldable pub addAnswer : ℕ → ℕ → ℕ → ℕ → List ℕ → List ℕ
 addAnswer w h full k mask frame sums squares = answerOf (addVerdict w h full k mask frame sums squares) (Frames (k + 1)) Refused
 
 -- the paper's numbers of an answer
-abbrev pub addPaperOf : Added → Paper ℕ
-addPaperOf (Frames k) = acceptedPaper k
-addPaperOf (Refused r) = refusedPaper r 0
+abbrev pub addPaperOf : Added → CountedPaper ℕ
+addPaperOf (Frames k) = acceptedCounted k
+addPaperOf (Refused r) = refusedCounted r 0
 
 -- the paper's numbers for all inputs
-unfoldable pub addPaper : ℕ → ℕ → ℕ → ℕ → List ℕ → List ℕ → List ℕ → List ℕ → Paper ℕ
-addPaper w h full k mask frame sums squares = paperFor (addVerdict w h full k mask frame sums squares) (k + 1) 0
+unfoldable pub addPaper : ℕ → ℕ → ℕ → ℕ → List ℕ → List ℕ → List ℕ → List ℕ → CountedPaper ℕ
+addPaper w h full k mask frame sums squares = countedFor (addVerdict w h full k mask frame sums squares) (k + 1) 0
 
 -- the sums afterwards: s + p at surveyed sites, other sites' sums stay; or all as they were
 unfoldable pub addSums : ℕ → ℕ → ℕ → ℕ → List ℕ → List ℕ → List ℕ → List ℕ → List ℕ

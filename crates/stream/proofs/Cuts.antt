@@ -11,7 +11,7 @@ use lib.ListN.{length, getD, take, length-take}
 use lib.Seq.{getD-take, length-take-le}
 use borrow.Author.Tests.{lt-ltb, le-ltb}
 use Rattle.laws.proofs.Cases.{lt-or-ge, ltb-iff}
-use Rattle.verdict.specs.Verdict.{refusal, _⨟_, refuseIf}
+use Rattle.verdict.specs.Verdict.{refusal, _⨟_, refuseWith, refuseIf}
 use Rattle.verdict.specs.declared.Verdict.the-variants.{Clear, Refused}
 use Rattle.verdict.proofs.Verdicts.{here, later, passed-head, passed-tail, then-same, then-clear, unless}
 use Rattle.window.specs.Shape.{badSides, sitesOf}
@@ -79,7 +79,7 @@ module _ (k : ℕ) (s : List ℕ) (at : ℕ) (f : Field) (whole : fieldAt s at f
       let inside = field-inside s at f whole in
       let size : length (take k s) ≡ k = length-take-le k s (omega arith) in
       let n = length (take k s) in
-      let told = field-table (take k s) at f .given 20 at in
+      let told = field-table (take k s) at f .given (refusal 20 at) in
       ⊎-elim
       (λ (q : at ≡ k). told (here (lt-ltb n (at + 1) (omega arith))))
       (λ (q : at < k).
@@ -116,7 +116,7 @@ module _ (n : ℕ) (s : List ℕ) (w h : ℕ) where
       (then-same (fieldsAt s 0 sideFields) (λ _.
       then-same (refuseIf 1 0 (badSides w h)) (λ a.
       then-same (refuseIf 24 0 (wideSides w h)) (λ b.
-      let fits = room (unless 1 0 (badSides w h) a) (unless 24 0 (wideSides w h) b) l in
+      let fits = room (unless _ (badSides w h) a) (unless _ (wideSides w h) b) l in
       rw (fields-seen n s 10 (bodyFields (sitesOf w h)) (omega arith), extra-seen n s (pastAll 10 (bodyFields (sitesOf w h))) fits)))))
 
 -- the place of a cut: where the field begins that the first missing byte would have stood in
@@ -138,7 +138,7 @@ module _ (s : List ℕ) (k : ℕ) where
 
   cut-bodies : Faultless s (widthOf s) (heightOf s) → 10 ≤ k → k < length s
       → faultsOf (take k s) (widthOf s) (heightOf s) ≡ Refused (refusal 20 (cutField s k))
-  unfolding faultsOf _⨟_ refuseIf
+  unfolding faultsOf _⨟_ refuseWith
   cut-bodies x l m =
       rw (
         fields-seen k s 0 sideFields (omega (arith, sides-end)),

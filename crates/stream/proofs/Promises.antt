@@ -1,19 +1,26 @@
 -- What is promised of `job`, for any input.
 use Prim.Native.Nat.{ℕ, _+_, _*_, _/_, _<_, _≤_}
+use mathlib.Core.Bool.{false}
 use mathlib.Core.List.{List, _∷_, _++_}
 use mathlib.Core.Path.{_≡_, refl, sym, ap, _∙_}
 use native.Mathlib.Omega.{arith}
+use lib.Dec.{ltb}
 use lib.IntN.{ℤ}
 use lib.ListN.{length, take, length-take, length-drop}
 use lib.Seq.{take-all}
+use Rattle.laws.specs.First.{countTo}
 use Rattle.laws.proofs.Tables.{length-tabulate}
 use Rattle.laws.proofs.Sole.{Sole, sole}
-use Rattle.verdict.specs.Verdict.{refusal, _⨟_, ifClear}
+use Rattle.verdict.specs.Verdict.{refusal, _⨟_, refuseIf, numberOf, ifClear}
+use Rattle.verdict.specs.declared.Refusal.{Refusal}
 use Rattle.verdict.specs.declared.Verdict.{Verdict}
 use Rattle.verdict.specs.declared.Verdict.the-variants as verdict
-use Rattle.verdict.proofs.Verdicts.{Test, Tabled, Refuses, refuses, inTurn, tabled, tabled-then, then-same, then-clear}
-use Rattle.verdict.proofs.Answers.{paper-told, was-accepted}
+use Rattle.verdict.proofs.Verdicts.{Test, Tabled, RefusesCounting, refuses, over-at-six, its-own, never-six, inTurn, tabled, tabled-then, then-same, then-clear}
+use Rattle.verdict.proofs.Answers.{counted-told, was-accepted}
+use Rattle.window.specs.Shape.{badSides}
+use Rattle.window.specs.View.{above, seen}
 use Rattle.window.proofs.Views.{Agree}
+use Rattle.refusals.proofs.Ranges.{two-counting}
 use Rattle.raw.specs.Packed.{sample10}
 use Rattle.raw.specs.Unpack.{unpackBuffer}
 use Rattle.pair.specs.Figures.{spreadOf}
@@ -29,7 +36,7 @@ use Rattle.stream.specs.declared.Answer.the-variants.{Figures, Refused}
 use Rattle.stream.proofs.Streams.{Faultless, faultless}
 use Rattle.stream.proofs.Frames.{left, unpacks}
 use Rattle.stream.proofs.Answers.{together-same, fault-is, calls-are, work-is}
-use Rattle.stream.proofs.Tables.{fieldsTests, streamTests, scaleTest, leftTests, stream-table, left-is}
+use Rattle.stream.proofs.Tables.{fieldsTests, streamTests, scaleTest, leftTests, stream-table, dark-left, left-is}
 use Rattle.stream.proofs.Cuts.{faults-seen, word-seen, cutField, stream-cut}
 
 -- a field's body is all there
@@ -44,7 +51,24 @@ module _ (s : List ℕ) where
   -- the paper's numbers are those of the answer
   pub paper-is : paperOf (jobAnswer s) ≡ jobPaper s
   unfolding jobAnswer jobPaper
-  paper-is = paper-told paperOf (jobVerdict s) refl (λ r. refl)
+  paper-is = counted-told paperOf (jobVerdict s) refl (λ r. refl)
+
+  -- what the library is lent of a stream without a fault: a legal window, and buffers of its length
+  record Lent : Type 0 where
+    even : badSides (widthOf s) (heightOf s) ≡ false
+    mask : length (maskOf s) ≡ sitesIn s
+    first : length (firstOf s) ≡ sitesIn s
+    second : length (secondOf s) ≡ sitesIn s
+
+  lent : streamVerdict s ≡ verdict.Clear → Lent
+  lent clear =
+      let x = faultless s (widthOf s) (heightOf s) clear in
+      record {
+        even = x .even;
+        mask = body-long s 20 (sitesIn s) (omega (arith, x .long));
+        first = length-tabulate (sitesIn s) (sample10 (bodyAt s (firstField (sitesIn s)) (packedIn s)));
+        second = length-tabulate (sitesIn s) (sample10 (bodyAt s (secondField (sitesIn s)) (packedIn s)));
+      }
 
   -- given: the faults of each field as they are met, 1 and 24 after field 2, 23; then what is left of the library's refusals, in its order
   abbrev pub tests : List Test
@@ -63,21 +87,51 @@ module _ (s : List ℕ) where
           ⨟ darkVerdict (widthOf s) (heightOf s) (fullOf s) (blackOf s) (maskOf s) (firstOf s)
           ≡ inTurn (scaleTest (fullOf s)) (leftTests (widthOf s) (heightOf s) (fullOf s) (blackOf s) (maskOf s) (firstOf s) (secondOf s))
       library clear =
-          let x = faultless s (widthOf s) (heightOf s) clear in
-          left-is (widthOf s) (heightOf s) (fullOf s) (blackOf s) (maskOf s) (firstOf s) (secondOf s) (x .even)
-          (body-long s 20 (sitesIn s) (omega (arith, x .long)))
-          (length-tabulate (sitesIn s) (sample10 (bodyAt s (firstField (sitesIn s)) (packedIn s))))
-          (length-tabulate (sitesIn s) (sample10 (bodyAt s (secondField (sitesIn s)) (packedIn s))))
+          let l = lent clear in
+          left-is (widthOf s) (heightOf s) (fullOf s) (blackOf s) (maskOf s) (firstOf s) (secondOf s) (l .even) (l .mask) (l .first) (l .second)
 
-  -- refused: where the number is not 0 every other number but the place is 0, and where it is 0 so is the place
-  pub refused : Refuses (jobPaper s .number) (jobPaper s .place) (jobPaper s .figures ≡ noFigures)
+  -- how many samples of a frame in the stream are above full scale
+  abbrev pub overFull : List ℕ → ℕ
+  overFull frame = countTo (sitesIn s) (above (fullOf s) (seen (maskOf s) frame))
+
+  -- refused: where the number is not 0 every other number but place and over is 0, and where it is 0 so is the place. Where it is 6, over is
+  -- at least 1 and just the count of samples above full scale, over both frames; else it is 0
+  pub refused : RefusesCounting (jobPaper s) (overFull (firstOf s) + overFull (secondOf s)) (jobPaper s .figures ≡ noFigures)
   unfolding jobPaper fieldsTests
-  refused = refuses (jobVerdict s) given refl (λ r e. rw e)
+  refused = (
+    refuses (jobVerdict s) given refl (λ r e. rw e),
+    over-at-six (jobVerdict s) given refl (two-counting (widthOf s) (heightOf s) (fullOf s) (seen (maskOf s) (firstOf s)) (seen (maskOf s) (secondOf s))),
+  )
+
+  -- pairs-six: a 6 of the job is the pair's, with its place and its count, since the dark level sees a frame that the pair has accepted
+  pub pairs-six : (r : Refusal) → jobVerdict s ≡ verdict.Refused r → r .number ≡ 6
+      → pairVerdict (widthOf s) (heightOf s) (fullOf s) (maskOf s) (firstOf s) (secondOf s) ≡ verdict.Refused r
+  unfolding jobVerdict fieldsTests _⨟_
+  pairs-six r e six = past-stream (streamVerdict s) refl e
+    where
+      pair-is : Verdict
+      pair-is = pairVerdict (widthOf s) (heightOf s) (fullOf s) (maskOf s) (firstOf s) (secondOf s)
+
+      dark-is : Verdict
+      dark-is = darkVerdict (widthOf s) (heightOf s) (fullOf s) (blackOf s) (maskOf s) (firstOf s)
+
+      own-three : streamVerdict s ≡ verdict.Clear → pair-is ≡ verdict.Clear → dark-is ≡ refuseIf 3 0 (ltb (fullOf s) (blackOf s))
+      own-three clear = let l = lent clear in
+          dark-left (widthOf s) (heightOf s) (fullOf s) (blackOf s) (maskOf s) (firstOf s) (secondOf s) (l .even) (l .mask) (l .first) (l .second)
+
+      past-pair : streamVerdict s ≡ verdict.Clear → (v : Verdict) → pair-is ≡ v → v ⨟ dark-is ≡ verdict.Refused r → pair-is ≡ verdict.Refused r
+      past-pair clear (verdict.Refused q) p f = p ∙ f
+      past-pair clear verdict.Clear p f = absurd (omega (arith, six, ap (λ (q : Refusal). q .number) (its-own (refusal 3 0) _ (sym (own-three clear p) ∙ f))))
+
+      past-stream : (v : Verdict) → streamVerdict s ≡ v → v ⨟ pair-is ⨟ dark-is ≡ verdict.Refused r → pair-is ≡ verdict.Refused r
+      past-stream verdict.Clear clear f = past-pair clear pair-is refl f
+      past-stream (verdict.Refused q) p f =
+          absurd (never-six (streamVerdict s) (stream-table s (widthOf s) (heightOf s)) refl refl (ap numberOf (p ∙ f) ∙ six))
 
   -- the noise is over 64 × sites and the dark level over sites, so the other numbers tell all that is printed
-  pub over : (jobPaper s .figures .rOver ≡ 64 * jobPaper s .figures .sites) × (jobPaper s .figures .darkOver ≡ jobPaper s .figures .sites)
+  pub denominators : (jobPaper s .figures .rOver ≡ 64 * jobPaper s .figures .sites) × (jobPaper s .figures .darkOver ≡ jobPaper s .figures .sites)
   unfolding jobPaper spreadOf
-  over = by (jobVerdict s)
+  denominators = by (jobVerdict s)
     where
       by : (v : Verdict) → (ifClear v (jobFigures s) noFigures .rOver ≡ 64 * ifClear v (jobFigures s) noFigures .sites)
           × (ifClear v (jobFigures s) noFigures .darkOver ≡ ifClear v (jobFigures s) noFigures .sites)
@@ -127,12 +181,12 @@ module _ (s : List ℕ) where
 pub decided : (s : List ℕ) → jobAnswer (take 14369 s) ≡ jobAnswer s
 decided s = by (streamVerdict s) refl
   where
-    seen : streamVerdict (take 14369 s) ≡ streamVerdict s
-    seen = rw (word-seen 14369 s 3 (omega arith), word-seen 14369 s 8 (omega arith)) (faults-seen 14369 s (widthOf s) (heightOf s) (omega arith))
+    read : streamVerdict (take 14369 s) ≡ streamVerdict s
+    read = rw (word-seen 14369 s 3 (omega arith), word-seen 14369 s 8 (omega arith)) (faults-seen 14369 s (widthOf s) (heightOf s) (omega arith))
 
     by : (v : Verdict) → streamVerdict s ≡ v → jobAnswer (take 14369 s) ≡ jobAnswer s
     by verdict.Clear e = ap jobAnswer (take-all 14369 s (omega (arith, longest s e)))
-    by (verdict.Refused r) e = sym (fault-is (take 14369 s) (seen ∙ e)) ∙ fault-is s e
+    by (verdict.Refused r) e = sym (fault-is (take 14369 s) (read ∙ e)) ∙ fault-is s e
 
 -- whatever follows them
 pub same-start : (s t : List ℕ) → take 14369 s ≡ take 14369 t → jobAnswer s ≡ jobAnswer t

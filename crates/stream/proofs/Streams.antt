@@ -33,7 +33,7 @@ extra-is s n = ap (λ (e : ℕ). extraAt s e) (end-is n)
 pub field-inside : (s : List ℕ) (at : ℕ) (f : Field) → fieldAt s at f ≡ Clear → past at f ≤ length s
 unfolding fieldAt
 field-inside s at f e =
-    ltb-false _ _ (unless _ _ _ (then-clear _ _ (then-clear _ _ (then-clear _ _ (then-clear _ _ e .1) .1) .1) .1))
+    ltb-false _ _ (unless _ _ (then-clear _ _ (then-clear _ _ (then-clear _ _ (then-clear _ _ e .1) .1) .1) .1))
 
 pub fields-inside : (s : List ℕ) (at : ℕ) (fs : List Field) → at ≤ length s → fieldsAt s at fs ≡ Clear → pastAll at fs ≤ length s
 unfolding fieldsAt pastAll
@@ -80,11 +80,11 @@ faultless s w h e =
     let one = then-clear _ _ (head .1) in
     let four = then-clear _ _ (one .1) in
     let rest = then-clear (fieldsAt s 10 (bodyFields n)) _ (four .1) in
-    let even = unless 1 0 (badSides w h) (one .0) in
-    let small = unless 24 0 (wideSides w h) (four .0) in
+    let even = unless _ (badSides w h) (one .0) in
+    let small = unless _ (wideSides w h) (four .0) in
     let begun : 10 ≤ length s = fields-inside s 0 sideFields (omega arith) (head .0) in
     let most = fields-inside s 10 (bodyFields n) begun (rest .0) in
-    let least : length s ≤ pastAll 10 (bodyFields n) = ltb-false _ _ (unless 23 _ _ (rest .1)) in
+    let least : length s ≤ pastAll 10 (bodyFields n) = ltb-false _ _ (unless _ _ (rest .1)) in
     record {
       sided = head .0;
       bodied = rest .0;

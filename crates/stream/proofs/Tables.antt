@@ -8,18 +8,19 @@ use lib.Dec.{ltb}
 use lib.ListN.{length, getD}
 use borrow.Author.Tests.{ne-eqb, ltb-false}
 use Rattle.laws.specs.Sum.{sumTo}
-use Rattle.verdict.specs.Verdict.{_⨟_, refuseIf, refuseFirst}
+use Rattle.verdict.specs.Verdict.{refusal, _⨟_, refuseIf, refuseFirst}
 use Rattle.verdict.specs.declared.Verdict.{Verdict}
 use Rattle.verdict.specs.declared.Verdict.the-variants.{Clear}
 use Rattle.verdict.proofs.Verdicts.{Test, Tabled, test, inTurn, tabled, tabled-none, tabled-then, skipped, then-assoc, then-same, then-clear, then-end, clear-first, unless, clear-unless}
 use Rattle.window.specs.Shape.{badSides, badScale, sitesOf}
 use Rattle.window.specs.View.{seen, one}
-use Rattle.refusals.specs.Judge.{shapeOf, otherThan, codesOf, samplesOf, maskVerdict, frameVerdict}
-use Rattle.refusals.proofs.Chains.{clear-shape, right-length, clear-length, clear-codes, clear-samples}
-use Rattle.refusals.proofs.Judges.{codesTest, samplesTest, Framed}
+use Rattle.refusals.specs.Judge.{shapeOf, otherThan, codesOf, samplesIn, rangeOf, maskVerdict, frameVerdict, framesVerdict}
+use Rattle.refusals.proofs.Chains.{clear-shape, right-length, clear-length, clear-codes}
+use Rattle.refusals.proofs.Ranges.{none, more, clear-samples, samplesTest}
+use Rattle.refusals.proofs.Judges.{codesTest, Framed}
 use Rattle.pair.specs.Figures.{spreadOf}
-use Rattle.pair.specs.Pair.{pairSpread, framesVerdict, pairVerdict}
-use Rattle.pair.proofs.Frames.{readable}
+use Rattle.pair.specs.Pair.{pairSpread, pairVerdict}
+use Rattle.refusals.proofs.Frames.{readable}
 use Rattle.dark.specs.Dark.{darkVerdict}
 use Rattle.stream.specs.Fields.{Field, past, wordAt, fieldAt, fieldsAt, pastAll}
 use Rattle.stream.specs.Stream.{sideFields, bodyFields, wideSides, faultsOf}
@@ -75,24 +76,23 @@ module _ (w h full black : ℕ) (mask first second : List ℕ) where
   abbrev pub leftTests : List Test
   leftTests =
       codesTest (sitesOf w h) mask
-      ∷ samplesTest (sitesOf w h) full (seen mask first)
-      ∷ samplesTest (sitesOf w h) full (seen mask second)
+      ∷ samplesTest w h full (seen mask first ∷ seen mask second ∷ []) (seen mask first)
+      ∷ samplesTest w h full (seen mask first ∷ seen mask second ∷ []) (seen mask second)
       ∷ test 7 0 (ltb (pairSpread w h mask first second .n) 2)
       ∷ test 3 0 (ltb full black)
       ∷ []
 
   module _ (even : badSides w h ≡ false) (m : length mask ≡ sitesOf w h) (f : length first ≡ sitesOf w h) (g : length second ≡ sitesOf w h) where
     long : (n : ℕ) → n ≡ sitesOf w h → (v : Verdict) → refuseIf 4 0 (otherThan (sitesOf w h) n) ⨟ v ≡ v
-    long n e v = skipped 4 0 v (otherThan (sitesOf w h) n) (right-length (sitesOf w h) n e)
+    long n e v = skipped (refusal 4 0) v (otherThan (sitesOf w h) n) (right-length (sitesOf w h) n e)
 
     legal : (v : Verdict) → refuseIf 1 0 (badSides w h) ⨟ v ≡ v
-    legal v = skipped 1 0 v (badSides w h) even
+    legal v = skipped (refusal 1 0) v (badSides w h) even
 
     pair-left : pairVerdict w h full mask first second
         ≡ refuseIf 2 0 (badScale full)
         ⨟ codesOf (sitesOf w h) mask
-        ⨟ samplesOf (sitesOf w h) full (seen mask first)
-        ⨟ samplesOf (sitesOf w h) full (seen mask second)
+        ⨟ rangeOf w h full (seen mask first ∷ seen mask second ∷ [])
         ⨟ refuseIf 7 0 (ltb (pairSpread w h mask first second .n) 2)
     unfolding pairVerdict framesVerdict maskVerdict shapeOf
     pair-left = simp (then-assoc, legal, long (length mask) m, long (length first) f, long (length second) g)
@@ -101,24 +101,26 @@ module _ (w h full black : ℕ) (mask first second : List ℕ) where
     own : {parameters : Verdict} → Framed w h full mask first → frameVerdict w h full parameters mask first Clear ≡ parameters
     unfolding frameVerdict maskVerdict
     own {parameters} of =
+        let range : rangeOf w h full (seen mask first ∷ []) ≡ Clear = clear-samples _ _ _ (more (of .range) none) in
         simp (
           clear-shape w h full (of .of .legal) (of .of .scaled),
           clear-length (sitesOf w h) (length mask) m,
           clear-length (sitesOf w h) (length first) f,
           clear-codes (sitesOf w h) mask (of .of .codes),
-          clear-samples (sitesOf w h) full (seen mask first) (of .range),
+          range,
           clear-first,
           then-end,
         )
 
-    dark-left : pairVerdict w h full mask first second ≡ Clear → darkVerdict w h full black mask first ≡ refuseIf 3 0 (ltb full black)
+    -- so after an accepted pair the dark level gives no 6
+    pub dark-left : pairVerdict w h full mask first second ≡ Clear → darkVerdict w h full black mask first ≡ refuseIf 3 0 (ltb full black)
     unfolding pairVerdict darkVerdict spreadOf
     dark-left e =
         let frames = then-clear _ _ e in
-        let two = ltb-false (sumTo (sitesOf w h) (one mask)) 2 (unless 7 0 _ (frames .1)) in
-        let some = clear-unless 7 0 (ne-eqb (sumTo (sitesOf w h) (one mask)) 0 (λ z. omega arith)) in
+        let two = ltb-false (sumTo (sitesOf w h) (one mask)) 2 (unless _ _ (frames .1)) in
+        let some = clear-unless (refusal 7 0) (ne-eqb (sumTo (sitesOf w h) (one mask)) 0 (λ z. omega arith)) in
         ap₂ (λ (a b : Verdict). a ⨟ b) (own (readable w h full mask first second (frames .0) .of-first)) some ∙ then-end _
 
     pub left-is : pairVerdict w h full mask first second ⨟ darkVerdict w h full black mask first ≡ inTurn (scaleTest full) leftTests
-    unfolding refuseFirst
-    left-is = rw (then-same (pairVerdict w h full mask first second) dark-left, pair-left) (simp then-assoc)
+    unfolding refuseFirst samplesIn
+    left-is = rw (then-same (pairVerdict w h full mask first second) dark-left, pair-left) (simp (then-assoc, clear-first))

@@ -3,7 +3,7 @@ use Prim.Native.Nat.{ℕ, _*_}
 use mathlib.Core.List.{List}
 use lib.IntN.{ℤ, pos}
 use Rattle.verdict.specs.Verdict.{_⨟_}
-use Rattle.verdict.specs.Answer.{answerOf, Paper, acceptedPaper, refusedPaper, paperFor}
+use Rattle.verdict.specs.Answer.{answerOf, CountedPaper, acceptedCounted, refusedCounted, countedFor}
 use Rattle.verdict.specs.declared.Verdict.{Verdict}
 use Rattle.pair.specs.Pair.{pairVerdict, pairFigures}
 use Rattle.pair.specs.declared.PairFigures.{PairFigures}
@@ -59,11 +59,11 @@ jobAnswer s =
     answerOf (jobVerdict s) (Figures (f .sites) (f .p) (f .q) (f .r) (f .rOver) (f .dark) (f .darkOver)) Refused
 
 -- the paper's numbers of an answer
-abbrev pub paperOf : Answer → Paper JobFigures
-paperOf (Figures sites p q r rOver level over) =
-    acceptedPaper (record { sites = sites; p = p; q = q; r = r; rOver = rOver; dark = level; darkOver = over })
-paperOf (Refused r) = refusedPaper r noFigures
+abbrev pub paperOf : Answer → CountedPaper JobFigures
+paperOf (Figures sites p q r rOver level darkOver) =
+    acceptedCounted (record { sites = sites; p = p; q = q; r = r; rOver = rOver; dark = level; darkOver = darkOver })
+paperOf (Refused r) = refusedCounted r noFigures
 
 -- the paper's numbers for all inputs
-unfoldable pub jobPaper : List ℕ → Paper JobFigures
-jobPaper s = paperFor (jobVerdict s) (jobFigures s) noFigures
+unfoldable pub jobPaper : List ℕ → CountedPaper JobFigures
+jobPaper s = countedFor (jobVerdict s) (jobFigures s) noFigures

@@ -138,14 +138,14 @@ fn together(pair: Pair, dark: Dark) -> Answer
         Pair::Refused(refusal) => Answer::Refused(refusal),
         Pair::Measured(figures) => match dark {
             Dark::Refused(refusal) => Answer::Refused(refusal),
-            Dark::Level(level, over) => Answer::Figures {
+            Dark::Level(level, count) => Answer::Figures {
                 sites: figures.n,
                 p: figures.p,
                 q: figures.q,
                 r: figures.r,
                 r_over: 64 * figures.n,
                 dark: level,
-                dark_over: over,
+                dark_over: count,
             },
         },
     }

@@ -13,6 +13,7 @@ pub extern "C" fn tip_colour_ratios(
     mask: &[u8],
     frame: &[u16],
     place: &mut u64,
+    over: &mut u64,
     r_numerator: &mut i64,
     r_denominator: &mut u64,
     b_numerator: &mut i64,
@@ -22,6 +23,7 @@ pub extern "C" fn tip_colour_ratios(
 ) -> u64
     ensures number { λ r. ⌜ r ≡ colourPaper width height «full_scale» «black_level» «bayer_order» (now (mask .entry)) (now (frame .entry)) .number ⌝ }
     ensures place { λ r. ⌜ now (place .exit) ≡ colourPaper width height «full_scale» «black_level» «bayer_order» (now (mask .entry)) (now (frame .entry)) .place ⌝ }
+    ensures over { λ r. ⌜ now (over .exit) ≡ colourPaper width height «full_scale» «black_level» «bayer_order» (now (mask .entry)) (now (frame .entry)) .over ⌝ }
     ensures r { λ r. ⌜ ratio (now («r_numerator» .exit)) (now («r_denominator» .exit)) ≡ colourPaper width height «full_scale» «black_level» «bayer_order» (now (mask .entry)) (now (frame .entry)) .figures .r ⌝ }
     ensures b { λ r. ⌜ ratio (now («b_numerator» .exit)) (now («b_denominator» .exit)) ≡ colourPaper width height «full_scale» «black_level» «bayer_order» (now (mask .entry)) (now (frame .entry)) .figures .b ⌝ }
     ensures gb { λ r. ⌜ ratio (now («gb_numerator» .exit)) (now («gb_denominator» .exit)) ≡ colourPaper width height «full_scale» «black_level» «bayer_order» (now (mask .entry)) (now (frame .entry)) .figures .gb ⌝ }
@@ -40,6 +42,7 @@ pub extern "C" fn tip_colour_ratios(
             let b_up = b.numerator;
             let gb_up = gb.numerator;
             *place = 0;
+            *over = 0;
             *r_numerator = r_up;
             *r_denominator = r.denominator;
             *b_numerator = b_up;
@@ -50,6 +53,7 @@ pub extern "C" fn tip_colour_ratios(
         }
         Colour::Refused(refusal) => {
             *place = refusal.place as u64;
+            *over = refusal.over;
             *r_numerator = 0;
             *r_denominator = 0;
             *b_numerator = 0;

@@ -7,6 +7,7 @@ use stream::Answer;
 pub extern "C" fn tip_job(
     input: &[u8],
     place: &mut u64,
+    over: &mut u64,
     sites: &mut u64,
     p: &mut u64,
     q: &mut u64,
@@ -15,6 +16,7 @@ pub extern "C" fn tip_job(
 ) -> u64
     ensures number { λ a. ⌜ a ≡ jobPaper (now (input .entry)) .number ⌝ }
     ensures place { λ a. ⌜ now (place .exit) ≡ jobPaper (now (input .entry)) .place ⌝ }
+    ensures over { λ a. ⌜ now (over .exit) ≡ jobPaper (now (input .entry)) .over ⌝ }
     ensures sites { λ a. ⌜ now (sites .exit) ≡ jobPaper (now (input .entry)) .figures .sites ⌝ }
     ensures p { λ a. ⌜ now (p .exit) ≡ jobPaper (now (input .entry)) .figures .p ⌝ }
     ensures q { λ a. ⌜ now (q .exit) ≡ jobPaper (now (input .entry)) .figures .q ⌝ }
@@ -32,6 +34,7 @@ pub extern "C" fn tip_job(
             dark_over: _,
         } => {
             *place = 0;
+            *over = 0;
             *sites = surveyed;
             *p = numerator;
             *q = denominator;
@@ -41,6 +44,7 @@ pub extern "C" fn tip_job(
         }
         Answer::Refused(refusal) => {
             *place = refusal.place as u64;
+            *over = refusal.over;
             *sites = 0;
             *p = 0;
             *q = 0;

@@ -12,6 +12,7 @@ pub extern "C" fn tip_pair_figures(
     first: &[u16],
     second: &[u16],
     place: &mut u64,
+    over: &mut u64,
     n: &mut u64,
     p: &mut u64,
     q: &mut u64,
@@ -21,6 +22,7 @@ pub extern "C" fn tip_pair_figures(
 ) -> u64
     ensures number { λ a. ⌜ a ≡ pairPaper width height «full_scale» (now (mask .entry)) (now (first .entry)) (now (second .entry)) .number ⌝ }
     ensures place { λ a. ⌜ now (place .exit) ≡ pairPaper width height «full_scale» (now (mask .entry)) (now (first .entry)) (now (second .entry)) .place ⌝ }
+    ensures over { λ a. ⌜ now (over .exit) ≡ pairPaper width height «full_scale» (now (mask .entry)) (now (first .entry)) (now (second .entry)) .over ⌝ }
     ensures n { λ a. ⌜ now (n .exit) ≡ pairPaper width height «full_scale» (now (mask .entry)) (now (first .entry)) (now (second .entry)) .figures .n ⌝ }
     ensures p { λ a. ⌜ now (p .exit) ≡ pairPaper width height «full_scale» (now (mask .entry)) (now (first .entry)) (now (second .entry)) .figures .p ⌝ }
     ensures q { λ a. ⌜ now (q .exit) ≡ pairPaper width height «full_scale» (now (mask .entry)) (now (first .entry)) (now (second .entry)) .figures .q ⌝ }
@@ -31,6 +33,7 @@ pub extern "C" fn tip_pair_figures(
     match pair::pair_figures(width, height, full_scale, mask, first, second) {
         Pair::Measured(figures) => {
             *place = 0;
+            *over = 0;
             *n = figures.n;
             *p = figures.p;
             *q = figures.q;
@@ -41,6 +44,7 @@ pub extern "C" fn tip_pair_figures(
         }
         Pair::Refused(refusal) => {
             *place = refusal.place as u64;
+            *over = refusal.over;
             *n = 0;
             *p = 0;
             *q = 0;

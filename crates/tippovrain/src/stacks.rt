@@ -16,10 +16,12 @@ pub extern "C" fn tip_stack_add(
     sums: &mut [u32],
     squares: &mut [u32],
     place: &mut u64,
+    over: &mut u64,
     count: &mut u64,
 ) -> u64
     ensures number { λ r. ⌜ r ≡ addPaper width height «full_scale» frames (now (mask .entry)) (now (frame .entry)) (now (sums .entry)) (now (squares .entry)) .number ⌝ }
     ensures place { λ r. ⌜ now (place .exit) ≡ addPaper width height «full_scale» frames (now (mask .entry)) (now (frame .entry)) (now (sums .entry)) (now (squares .entry)) .place ⌝ }
+    ensures over { λ r. ⌜ now (over .exit) ≡ addPaper width height «full_scale» frames (now (mask .entry)) (now (frame .entry)) (now (sums .entry)) (now (squares .entry)) .over ⌝ }
     ensures count { λ r. ⌜ now (count .exit) ≡ addPaper width height «full_scale» frames (now (mask .entry)) (now (frame .entry)) (now (sums .entry)) (now (squares .entry)) .figures ⌝ }
     ensures sums { λ r. ⌜ now (sums .exit) ≡ addSums width height «full_scale» frames (now (mask .entry)) (now (frame .entry)) (now (sums .entry)) (now (squares .entry)) ⌝ }
     ensures squares { λ r. ⌜ now (squares .exit) ≡ addSquares width height «full_scale» frames (now (mask .entry)) (now (frame .entry)) (now (sums .entry)) (now (squares .entry)) ⌝ }
@@ -36,11 +38,13 @@ pub extern "C" fn tip_stack_add(
     ) {
         Added::Frames(held) => {
             *place = 0;
+            *over = 0;
             *count = held;
             0
         }
         Added::Refused(refusal) => {
             *place = refusal.place as u64;
+            *over = refusal.over;
             *count = 0;
             refusal.number
         }
@@ -68,10 +72,10 @@ pub extern "C" fn tip_stack_variance(
     ensures variance { λ r. ⌜ now (variance .exit) ≡ variancePaper width height «full_scale» frames (now (mask .entry)) (now (sums .entry)) (now (squares .entry)) .figures .variance ⌝ }
 {
     match stack::stack_variance(width, height, full_scale, frames, mask, sums, squares) {
-        Variance::Figures(over, under, quotient) => {
+        Variance::Figures(upper, lower, quotient) => {
             *place = 0;
-            *numerator = over;
-            *denominator = under;
+            *numerator = upper;
+            *denominator = lower;
             *variance = quotient;
             0
         }

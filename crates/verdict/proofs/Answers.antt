@@ -1,16 +1,28 @@
 -- The laws of the frame of a call: from a verdict to the answer and its numbers, and back.
 use mathlib.Core.Path.{_≡_, refl}
-use Rattle.verdict.specs.Answer.{answerOf, Paper, acceptedPaper, refusedPaper, paperFor}
+use Rattle.verdict.specs.Answer.{answerOf, Paper, acceptedPaper, refusedPaper, paperFor, CountedPaper, acceptedCounted, refusedCounted, countedFor}
 use Rattle.verdict.specs.declared.Refusal.{Refusal}
 use Rattle.verdict.specs.declared.Verdict.{Verdict}
 use Rattle.verdict.specs.declared.Verdict.the-variants.{Clear, Refused}
 
--- an answer's numbers, by its two cases, are the verdict's
-pub paper-told : {A F : Type 0} (paperOf : A → Paper F) {accepted : A} {refusing : Refusal → A} {figures zeros : F} (v : Verdict)
-    → paperOf accepted ≡ acceptedPaper figures → ((r : Refusal) → paperOf (refusing r) ≡ refusedPaper r zeros)
-    → paperOf (answerOf v accepted refusing) ≡ paperFor v figures zeros
-paper-told paperOf Clear a f = a
-paper-told paperOf (Refused r) a f = f r
+-- what is told of an answer, by its two cases, is what is told of the verdict
+told : {A P : Type 0} (of-answer : A → P) (of-verdict : Verdict → P) {accepted : A} {refusing : Refusal → A} (v : Verdict)
+    → of-answer accepted ≡ of-verdict Clear → ((r : Refusal) → of-answer (refusing r) ≡ of-verdict (Refused r))
+    → of-answer (answerOf v accepted refusing) ≡ of-verdict v
+told of-answer of-verdict Clear a f = a
+told of-answer of-verdict (Refused r) a f = f r
+
+-- so an answer's numbers are the verdict's, with a count and without
+module _ {A F : Type 0} {accepted : A} {refusing : Refusal → A} {figures zeros : F} where
+  pub paper-told : (paperOf : A → Paper F) (v : Verdict)
+      → paperOf accepted ≡ acceptedPaper figures → ((r : Refusal) → paperOf (refusing r) ≡ refusedPaper r zeros)
+      → paperOf (answerOf v accepted refusing) ≡ paperFor v figures zeros
+  paper-told paperOf v a f = told paperOf (λ (u : Verdict). paperFor u figures zeros) v a f
+
+  pub counted-told : (paperOf : A → CountedPaper F) (v : Verdict)
+      → paperOf accepted ≡ acceptedCounted figures → ((r : Refusal) → paperOf (refusing r) ≡ refusedCounted r zeros)
+      → paperOf (answerOf v accepted refusing) ≡ countedFor v figures zeros
+  counted-told paperOf v a f = told paperOf (λ (u : Verdict). countedFor u figures zeros) v a f
 
 -- an answer that is no refusal was accepted
 pub was-accepted : {A : Type 0} (v : Verdict) {accepted x : A} {refusing : Refusal → A} → ((r : Refusal) → refusing r ≡ x → ⊥)

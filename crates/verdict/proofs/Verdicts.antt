@@ -1,14 +1,15 @@
 -- The laws of verdicts in turn: a number is given exactly where its test applies and none before it does.
-use Prim.Native.Nat.{ℕ, _<_}
-use mathlib.Core.Bool.{Bool, true, false, _&&_}
+use Prim.Native.Nat.{ℕ, _≤_, _<_}
+use mathlib.Core.Bool.{Bool, true, false, cond, _&&_}
 use mathlib.Core.List.{List, [], _∷_, _++_}
-use mathlib.Core.Path.{_≡_, refl, sym, ap, ap₂, _∙_, subst₂}
+use mathlib.Core.Path.{_≡_, refl, sym, ap, ap₂, _∙_, subst}
 use native.Mathlib.Omega.{arith}
-use lib.Dec.{ltb}
-use borrow.Author.Tests.{ltb-true}
-use Rattle.laws.specs.First.{firstTo}
+use lib.Dec.{eqb, ltb}
+use borrow.Author.Tests.{ltb-true, eqb-true, eq-eqb, ne-eqb}
+use Rattle.laws.specs.First.{firstTo, someTo}
 use Rattle.laws.proofs.Cases.{and-true}
-use Rattle.verdict.specs.Verdict.{refusal, _⨟_, refuseIf, refuseFirst, numberOf, placeOf}
+use Rattle.verdict.specs.Verdict.{refusal, refusalOver, _⨟_, refuseWith, refuseFirst, numberOf, placeOf, overOf}
+use Rattle.verdict.specs.Answer.{CountedPaper}
 use Rattle.verdict.specs.declared.Refusal.{Refusal}
 use Rattle.verdict.specs.declared.Verdict.{Verdict}
 use Rattle.verdict.specs.declared.Verdict.the-variants.{Clear, Refused}
@@ -51,53 +52,59 @@ then-end Clear = refl
 then-end (Refused r) = refl
 
 -- a test that refuses nothing does not apply
-pub unless : (k p : ℕ) (b : Bool) → refuseIf k p b ≡ Clear → b ≡ false
-unfolding refuseIf
-unless k p false e = refl
-unless k p true e = not-clear e
+pub unless : (r : Refusal) (b : Bool) → refuseWith r b ≡ Clear → b ≡ false
+unfolding refuseWith
+unless r false e = refl
+unless r true e = not-clear e
 
-pub clear-unless : (k p : ℕ) {b : Bool} → b ≡ false → refuseIf k p b ≡ Clear
-unfolding refuseIf
-clear-unless k p e = rw e
+pub clear-unless : (r : Refusal) {b : Bool} → b ≡ false → refuseWith r b ≡ Clear
+unfolding refuseWith
+clear-unless r e = rw e
+
+-- what a test refuses with is its own refusal
+pub its-own : (q : Refusal) (b : Bool) {r : Refusal} → refuseWith q b ≡ Refused r → q ≡ r
+unfolding refuseWith
+its-own q true e = cc
+its-own q false e = not-clear (sym e)
 
 -- a test that never applies where all before it is clear changes no verdict
-pub then-spare : (a : Verdict) (k p : ℕ) {b : Bool} → (a ≡ Clear → b ≡ false) → a ⨟ refuseIf k p b ≡ a
-then-spare a k p f = then-same a (λ e. clear-unless k p (f e)) ∙ then-end a
+pub then-spare : (a : Verdict) (r : Refusal) {b : Bool} → (a ≡ Clear → b ≡ false) → a ⨟ refuseWith r b ≡ a
+then-spare a r f = then-same a (λ e. clear-unless r (f e)) ∙ then-end a
 
 -- a search whose number is not given found nothing
-pub not-given : (k n : ℕ) (test : ℕ → Bool) (v : Verdict) → (numberOf (refuseFirst k n test ⨟ v) ≡ k → ⊥) → refuseFirst k n test ⨟ v ≡ v
-unfolding refuseFirst refuseIf _⨟_
-not-given k n test v = by (ltb (firstTo n test) n)
+pub not-given : (k over n : ℕ) (test : ℕ → Bool) (v : Verdict) → (numberOf (refuseFirst k over n test ⨟ v) ≡ k → ⊥) → refuseFirst k over n test ⨟ v ≡ v
+unfolding refuseFirst refuseWith _⨟_
+not-given k over n test v = by (someTo n test)
   where
-    by : (b : Bool) → (numberOf (refuseIf k (firstTo n test) b ⨟ v) ≡ k → ⊥) → refuseIf k (firstTo n test) b ⨟ v ≡ v
+    by : (b : Bool) → (numberOf (refuseWith (refusalOver k (firstTo n test) over) b ⨟ v) ≡ k → ⊥) → refuseWith (refusalOver k (firstTo n test) over) b ⨟ v ≡ v
     by true f = absurd (f refl)
     by false f = refl
 
--- ---- a table of tests: each a number, a place, and whether it applies
+-- ---- a table of tests: each a refusal, and whether it applies
 pub record Test : Type 0 where
-  pub number : ℕ
-  pub place : ℕ
+  pub refusal : Refusal
   pub applies : Bool
 
+-- of a refusal that counts nothing
 abbrev pub test : ℕ → ℕ → Bool → Test
-test k p b = record { number = k; place = p; applies = b }
+test k p b = record { refusal = refusal k p; applies = b }
 
--- refused at the first of n sites at which something holds
-abbrev pub testFirst : ℕ → ℕ → (ℕ → Bool) → Test
-testFirst k n at = test k (firstTo n at) (ltb (firstTo n at) n)
+-- with a count, at the first of n sites at which something holds
+abbrev pub testFirst : ℕ → ℕ → ℕ → (ℕ → Bool) → Test
+testFirst k over n at = record { refusal = refusalOver k (firstTo n at) over; applies = someTo n at }
 
 abbrev pub asked : Test → Verdict
-asked t = refuseIf (t .number) (t .place) (t .applies)
+asked t = refuseWith (t .refusal) (t .applies)
 
 -- its tests in turn, the first and then the rest
 abbrev pub inTurn : Test → List Test → Verdict
 inTurn t [] = asked t
 inTurn t (u ∷ us) = asked t ⨟ inTurn u us
 
--- number k is given at place p: a test of the table that has them applies, and none before it does
-pub data Given : List Test → ℕ → ℕ → Type 0 where
-  here : {t : Test} {ts : List Test} → t .applies ≡ true → Given (t ∷ ts) (t .number) (t .place)
-  later : {t : Test} {ts : List Test} {k p : ℕ} → t .applies ≡ false → Given ts k p → Given (t ∷ ts) k p
+-- a refusal is given: a test of the table that has its number, place and count applies, and none before it does
+pub data Given : List Test → Refusal → Type 0 where
+  here : {t : Test} {ts : List Test} → t .applies ≡ true → Given (t ∷ ts) (t .refusal)
+  later : {t : Test} {ts : List Test} {r : Refusal} → t .applies ≡ false → Given ts r → Given (t ∷ ts) r
 
 -- no test of the table applies
 pub data Passed : List Test → Type 0 where
@@ -110,10 +117,10 @@ passed-head (past e p) = e
 pub passed-tail : {t : Test} {ts : List Test} → Passed (t ∷ ts) → Passed ts
 passed-tail (past e p) = p
 
--- a verdict is what a table says: a number is given exactly as tabled, and nothing is where no test applies
+-- a verdict is what a table says: a refusal is given exactly as tabled, and nothing is where no test applies
 pub record Tabled (v : Verdict) (ts : List Test) : Type 0 where
-  pub only : (k p : ℕ) → v ≡ Refused (refusal k p) → Given ts k p
-  pub given : (k p : ℕ) → Given ts k p → v ≡ Refused (refusal k p)
+  pub only : (r : Refusal) → v ≡ Refused r → Given ts r
+  pub given : (r : Refusal) → Given ts r → v ≡ Refused r
   pub clear : v ≡ Clear → Passed ts
   pub passed : Passed ts → v ≡ Clear
 
@@ -126,60 +133,59 @@ unfolding allOf
 turned t [] = then-end (asked t)
 turned t (u ∷ us) = ap (λ (v : Verdict). asked t ⨟ v) (turned u us)
 
-module _ (k p : ℕ) (v : Verdict) where
-  applied : (b : Bool) → b ≡ true → refuseIf k p b ⨟ v ≡ Refused (refusal k p)
-  unfolding refuseIf _⨟_
+module _ (r : Refusal) (v : Verdict) where
+  applied : (b : Bool) → b ≡ true → refuseWith r b ⨟ v ≡ Refused r
+  unfolding refuseWith _⨟_
   applied b e = rw e
 
   -- a test that does not apply is passed over
-  pub skipped : (b : Bool) → b ≡ false → refuseIf k p b ⨟ v ≡ v
-  unfolding refuseIf _⨟_
+  pub skipped : (b : Bool) → b ≡ false → refuseWith r b ⨟ v ≡ v
+  unfolding refuseWith _⨟_
   skipped b e = rw e
 
-giving : {ts : List Test} {k p : ℕ} → Given ts k p → allOf ts ≡ Refused (refusal k p)
+giving : {ts : List Test} {r : Refusal} → Given ts r → allOf ts ≡ Refused r
 unfolding allOf
-giving (here {t} {ts} e) = applied (t .number) (t .place) (allOf ts) (t .applies) e
-giving (later {t} {ts} e g) = skipped (t .number) (t .place) (allOf ts) (t .applies) e ∙ giving g
+giving (here {t} {ts} e) = applied (t .refusal) (allOf ts) (t .applies) e
+giving (later {t} {ts} e g) = skipped (t .refusal) (allOf ts) (t .applies) e ∙ giving g
 
 passing : {ts : List Test} → Passed ts → allOf ts ≡ Clear
 unfolding allOf
 passing end = refl
-passing (past {t} {ts} e g) = skipped (t .number) (t .place) (allOf ts) (t .applies) e ∙ passing g
+passing (past {t} {ts} e g) = skipped (t .refusal) (allOf ts) (t .applies) e ∙ passing g
 
-gives : (ts : List Test) (k p : ℕ) → allOf ts ≡ Refused (refusal k p) → Given ts k p
+gives : (ts : List Test) (r : Refusal) → allOf ts ≡ Refused r → Given ts r
 unfolding allOf
-gives [] k p e = not-clear (sym e)
-gives (t ∷ ts) k p e = by (t .applies) refl (λ h. gives ts k p h)
+gives [] r e = not-clear (sym e)
+gives (t ∷ ts) r e = by (t .applies) refl (λ h. gives ts r h)
   where
-    by : (b : Bool) → t .applies ≡ b → (allOf ts ≡ Refused (refusal k p) → Given ts k p) → Given (t ∷ ts) k p
+    by : (b : Bool) → t .applies ≡ b → (allOf ts ≡ Refused r → Given ts r) → Given (t ∷ ts) r
     by true a on =
-        let r : Refused (refusal (t .number) (t .place)) ≡ Refused (refusal k p) = sym (applied (t .number) (t .place) (allOf ts) (t .applies) a) ∙ e in
-        let n : t .number ≡ k = ap numberOf r in
-        let q : t .place ≡ p = ap placeOf r in
-        subst₂ (λ (x y : ℕ). Given (t ∷ ts) x y) n q (here a)
-    by false a on = later a (on (sym (skipped (t .number) (t .place) (allOf ts) (t .applies) a) ∙ e))
+        let same : Refused (t .refusal) ≡ Refused r = sym (applied (t .refusal) (allOf ts) (t .applies) a) ∙ e in
+        let it : t .refusal ≡ r = cc in
+        subst (λ (x : Refusal). Given (t ∷ ts) x) it (here a)
+    by false a on = later a (on (sym (skipped (t .refusal) (allOf ts) (t .applies) a) ∙ e))
 
 passes : (ts : List Test) → allOf ts ≡ Clear → Passed ts
 unfolding allOf
 passes [] e = end
 passes (t ∷ ts) e =
     let both = then-clear (asked t) (allOf ts) e in
-    past (unless (t .number) (t .place) (t .applies) (both .0)) (passes ts (both .1))
+    past (unless (t .refusal) (t .applies) (both .0)) (passes ts (both .1))
 
 -- a verdict is what a table says exactly where it is all its tests in turn
 all-tabled : (v : Verdict) (ts : List Test) → v ≡ allOf ts → Tabled v ts
 all-tabled v ts e = record {
-  only = λ k p f. gives ts k p (sym e ∙ f);
-  given = λ k p g. e ∙ giving g;
+  only = λ r f. gives ts r (sym e ∙ f);
+  given = λ r g. e ∙ giving g;
   clear = λ f. passes ts (sym e ∙ f);
   passed = λ g. e ∙ passing g;
 }
 
 tabled-all : {ts : List Test} (v : Verdict) → Tabled v ts → v ≡ allOf ts
 tabled-all Clear t = sym (passing (t .clear refl))
-tabled-all (Refused r) t = sym (giving (t .only (r .number) (r .place) refl))
+tabled-all (Refused r) t = sym (giving (t .only r refl))
 
--- THE LAW: tests in turn are what their table says
+-- THE LAW: tests in turn are what their table says, number, place and count
 pub tabled : (t : Test) (ts : List Test) → Tabled (inTurn t ts) (t ∷ ts)
 tabled t ts = all-tabled (inTurn t ts) (t ∷ ts) (sym (turned t ts))
 
@@ -202,22 +208,22 @@ tabled-then {ts} {us} {a} {b} p q =
 -- no test of a table has the number 0, by which an accepted answer is told
 abbrev pub numbered : List Test → Bool
 numbered [] = true
-numbered (t ∷ ts) = ltb 0 (t .number) && numbered ts
+numbered (t ∷ ts) = ltb 0 (t .refusal .number) && numbered ts
 
--- of a call's number and place, and of what holds where it refuses: its other numbers are 0, its buffers as they were
+-- of a call's number and place, and of what holds where it refuses: its figures are 0, its buffers as they were
 pub record Refuses (number place : ℕ) (Untouched : Type 0) : Type 0 where
   pub refused : (number ≡ 0 → ⊥) → Untouched
   pub accepted : number ≡ 0 → place ≡ 0
 
-number-above : (ts : List Test) {k p : ℕ} → numbered ts ≡ true → Given ts k p → 0 < k
-number-above (t ∷ ts) e (here a) = ltb-true 0 (t .number) (and-true (ltb 0 (t .number)) (numbered ts) e .0)
-number-above (t ∷ ts) e (later a g) = number-above ts (and-true (ltb 0 (t .number)) (numbered ts) e .1) g
+number-above : (ts : List Test) {r : Refusal} → numbered ts ≡ true → Given ts r → 0 < r .number
+number-above (t ∷ ts) e (here a) = ltb-true 0 (t .refusal .number) (and-true (ltb 0 (t .refusal .number)) (numbered ts) e .0)
+number-above (t ∷ ts) e (later a g) = number-above ts (and-true (ltb 0 (t .refusal .number)) (numbered ts) e .1) g
 
 -- a verdict whose number is 0 refuses nothing
 pub zero-clear : {ts : List Test} (v : Verdict) → Tabled v ts → numbered ts ≡ true → numberOf v ≡ 0 → v ≡ Clear
 zero-clear Clear t n e = refl
 zero-clear {ts} (Refused r) t n e =
-    let above : 0 < r .number = number-above ts n (t .only (r .number) (r .place) refl) in
+    let above : 0 < r .number = number-above ts n (t .only r refl) in
     absurd (omega arith)
 
 -- THE LAW: of any verdict that a table without a 0 says
@@ -226,5 +232,71 @@ pub refuses : {ts : List Test} (v : Verdict) {Untouched : Type 0}
     → Refuses (numberOf v) (placeOf v) Untouched
 refuses Clear t n u = record { refused = λ f. absurd (f refl); accepted = λ e. refl }
 refuses {ts} (Refused r) t n u =
-    let above : 0 < r .number = number-above ts n (t .only (r .number) (r .place) refl) in
+    let above : 0 < r .number = number-above ts n (t .only r refl) in
     record { refused = λ f. u r refl; accepted = λ e. absurd (omega arith) }
+
+-- ---- demand 1 as document 02 d amends it: 6 counts the samples that are over, and no other number counts anything
+-- of a call's number and its over: at 6 just so many samples, and at least 1; else 0
+pub record OverAtSix (number over samples : ℕ) : Type 0 where
+  pub at-six : number ≡ 6 → (over ≡ samples) × (1 ≤ over)
+  pub else-none : (number ≡ 6 → ⊥) → over ≡ 0
+
+-- and all that demand 1 says of the numbers of a call that can give 6
+abbrev pub RefusesCounting : {F : Type 0} → CountedPaper F → ℕ → Type 0 → Type 0
+RefusesCounting paper samples Untouched = Refuses (paper .number) (paper .place) Untouched × OverAtSix (paper .number) (paper .over) samples
+
+-- the tests of 6 in a table
+abbrev pub sixes : List Test → List Test
+sixes [] = []
+sixes (t ∷ ts) = cond (eqb (t .refusal .number) 6) (t ∷ sixes ts) (sixes ts)
+
+-- no other test has a count
+abbrev pub uncounted : List Test → Bool
+uncounted [] = true
+uncounted (t ∷ ts) = cond (eqb (t .refusal .number) 6) true (eqb (t .refusal .over) 0) && uncounted ts
+
+-- each test of a table has this count, and applies only where it is at least 1
+pub data Counting (samples : ℕ) : List Test → Type 0 where
+  no-six : Counting samples []
+  also : {t : Test} {ts : List Test} → t .refusal .over ≡ samples → (t .applies ≡ true → 1 ≤ samples) → Counting samples ts → Counting samples (t ∷ ts)
+
+-- what a table gives at 6 is given by its tests of 6
+given-six : (ts : List Test) {r : Refusal} {samples : ℕ} → Counting samples (sixes ts) → Given ts r → r .number ≡ 6 → (r .over ≡ samples) × (1 ≤ samples)
+given-six (t ∷ ts) {samples = samples} c (here a) e = by (rw (eq-eqb (t .refusal .number) 6 e) at c)
+  where
+    by : {us : List Test} → Counting samples (t ∷ us) → (t .refusal .over ≡ samples) × (1 ≤ samples)
+    by (also same some rest) = (same, some a)
+given-six (t ∷ ts) {samples = samples} c (later a g) e = given-six ts (by (eqb (t .refusal .number) 6) c) g e
+  where
+    by : (b : Bool) → Counting samples (cond b (t ∷ sixes ts) (sixes ts)) → Counting samples (sixes ts)
+    by true (also same some rest) = rest
+    by false c = c
+
+given-other : (ts : List Test) {r : Refusal} → uncounted ts ≡ true → Given ts r → (r .number ≡ 6 → ⊥) → r .over ≡ 0
+given-other (t ∷ ts) e (here a) other =
+    eqb-true (t .refusal .over) 0
+    (rw (ne-eqb (t .refusal .number) 6 other) at (and-true (cond (eqb (t .refusal .number) 6) true (eqb (t .refusal .over) 0)) (uncounted ts) e .0))
+given-other (t ∷ ts) e (later a g) other =
+    given-other ts (and-true (cond (eqb (t .refusal .number) 6) true (eqb (t .refusal .over) 0)) (uncounted ts) e .1) g other
+
+-- THE LAW: of any verdict that a table says in which 6 alone counts
+pub over-at-six : {ts : List Test} {samples : ℕ} (v : Verdict) → Tabled v ts → uncounted ts ≡ true → Counting samples (sixes ts)
+    → OverAtSix (numberOf v) (overOf v) samples
+over-at-six Clear t u c = record { at-six = λ e. absurd (omega arith); else-none = λ f. refl }
+over-at-six {ts} (Refused r) t u c =
+    let given = t .only r refl in
+    record {
+      at-six = λ e. let six = given-six ts c given e in (six .0, omega (arith, six .0, six .1));
+      else-none = given-other ts u given;
+    }
+
+-- so a table that has no 6 gives none, and counts nothing
+module _ {ts : List Test} (v : Verdict) (t : Tabled v ts) (u : uncounted ts ≡ true) (none : sixes ts ≡ []) where
+  uncounting : OverAtSix (numberOf v) (overOf v) 0
+  uncounting = over-at-six {samples = 0} v t u (rw none no-six)
+
+  pub never-six : numberOf v ≡ 6 → ⊥
+  never-six e = omega (arith, uncounting .at-six e .0, uncounting .at-six e .1)
+
+  pub never-over : overOf v ≡ 0
+  never-over = uncounting .else-none never-six

@@ -2,10 +2,11 @@
 ghost use mathlib.Core.Path.{_≡_};
 ghost use Rattle.verdict.specs.Verdict.{_⨟_, refuseIf};
 
-// A refusal's number and place, as document 01 tables them.
+// A refusal's number and place, as document 01 tables them, and how many samples are above full scale, which only 6 tells (document 02, d).
 pub struct Refusal {
     pub number: u64,
     pub place: usize,
+    pub over: u64,
 }
 
 pub enum Verdict {
@@ -27,7 +28,11 @@ pub fn refuse_if(number: u64, place: usize, applies: bool) -> Verdict
     ensures { λ r. ⌜ r ≡ refuseIf number place applies ⌝ }
 {
     if applies {
-        Verdict::Refused(Refusal { number, place })
+        Verdict::Refused(Refusal {
+            number,
+            place,
+            over: 0,
+        })
     } else {
         Verdict::Clear
     }

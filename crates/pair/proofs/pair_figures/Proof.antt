@@ -2,8 +2,9 @@
 use mathlib.Core.Path.{_≡_, sym, ap, _∙_}
 use borrow.Author.Needs.{needs}
 use Rattle.verdict.specs.declared.Verdict.the-variants as verdict
+use Rattle.refusals.specs.Judge.{framesVerdict}
 use Rattle.pair.specs.Figures.{figuresOf}
-use Rattle.pair.specs.Pair.{framesVerdict, pairVerdict}
+use Rattle.pair.specs.Pair.{pairVerdict}
 use Rattle.pair.proofs.Accepts.{lent}
 use Rattle.pair.proofs.Answers.{frames-refused, same-spread, rest, in-bounds, refused-is, accepted-is}
 use Rattle.pair.proofs.pair_figures.Statement.{statement}
@@ -15,21 +16,21 @@ module _ (c : tie.After-enum-told) where
   begun = c .before .before .before .before .before .before
 
   cleared : framesVerdict (begun .args .width) (begun .args .height) (begun .args .full-scale) (begun .args .mask .now) (begun .args .first .now) (begun .args .second .now) ≡ verdict.Clear
-  cleared = sym (c .before .before .judge .ensures) ∙ c .enum-told .given .1
+  cleared = sym (c .before .before .judge-frames .ensures) ∙ c .enum-told .given .1
 
 -- and past the walk, 7 is the verdict
 seven : (c : tie.After-refuse-if) → let a = begun (c .before .before .before) .args in
     c .refuse-if .result ≡ pairVerdict (a .width) (a .height) (a .full-scale) (a .mask .now) (a .first .now) (a .second .now)
 seven c = c .refuse-if .ensures ∙ rest _ _ _ _ _ _ _ (cleared (c .before .before .before)) (c .before .before .spread-of .ensures)
 
-judge-requires : tie.Need-judge-requires
-judge-requires c κs = search needs
+judge-frames-requires : tie.Need-judge-frames-requires
+judge-frames-requires c κs = search needs
 
 enum-known-frames : tie.Need-enum-known-frames
 enum-known-frames c = search needs
 
 returns : tie.Need-returns
-returns c = refused-is _ _ _ _ _ _ _ (frames-refused _ _ _ _ _ _ _ (sym (c .before .before .before .judge .ensures) ∙ c .before .frames .given .1))
+returns c = refused-is _ _ _ _ _ _ _ (frames-refused _ _ _ _ _ _ _ (sym (c .before .before .before .judge-frames .ensures) ∙ c .before .frames .given .1))
 
 enum-told : tie.Need-enum-told
 enum-told c = search needs
@@ -63,7 +64,7 @@ pub pair-figures-spec : {M : Type 1} → statement M
 pair-figures-spec =
     tie.close
     (tie.spec
-    judge-requires
+    judge-frames-requires
     enum-known-frames
     returns
     enum-told

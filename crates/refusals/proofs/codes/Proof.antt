@@ -16,14 +16,14 @@ walkable-requires : tie.Need-walkable-requires
 walkable-requires c κs = search needs
 
 returns : tie.Need-returns
-returns c = none-walked 5 _ _ (sym (c .before .walkable .ensures) ∙ c .if1 .taken)
+returns c = none-walked 5 0 _ _ (sym (c .before .walkable .ensures) ∙ c .if1 .taken)
 
 some-code-above-requires : tie.Need-some-code-above-requires
 some-code-above-requires c κs = search needs
 
 returns-2 : tie.Need-returns-2
 returns-2 c = let m = masked (c .before .before) in
-    none-found 5 _ _ _ (m .sites ∙ sym (m .holds)) (sym (c .before .some-code-above .ensures) ∙ not-true _ (c .if2 .taken))
+    none-found 5 0 _ _ _ (m .sites ∙ sym (m .holds)) (sym (c .before .some-code-above .ensures) ∙ not-true _ (c .if2 .taken))
 
 first-bad-code-requires : tie.Need-first-bad-code-requires
 first-bad-code-requires c κs = masked (c .before .before) .holds
@@ -35,7 +35,7 @@ returns-3 : tie.Need-returns-3
 returns-3 c =
     let n = masked (c .before .before .before .before) .sites in
     c .refuse-if .ensures
-    ∙ found 5 _ _ _ _ _ (c .before .before .before .before .before .walkable .ensures ∙ n) n (c .before .first-bad-code .ensures)
+    ∙ found 5 0 _ _ _ _ _ (c .before .before .before .before .before .walkable .ensures ∙ n) n (c .before .first-bad-code .ensures)
 
 pub codes-spec : {M : Type 1} → statement M
 codes-spec =

@@ -2,7 +2,7 @@
 use mathlib.Core.Path.{ap, _∙_}
 use native.Mathlib.Omega.{arith}
 use borrow.Author.Needs.{needs}
-use Rattle.verdict.specs.Answer.{Paper}
+use Rattle.verdict.specs.Answer.{CountedPaper}
 use Rattle.pair.specs.declared.PairFigures.{PairFigures}
 use Rattle.stream.proofs.Answers.{together-same, pair-few}
 use Rattle.stream.proofs.figures.Statement.{statement}
@@ -16,7 +16,7 @@ dark-level-requires c κs = search needs
 
 together-requires : tie.Need-together-requires
 together-requires c κs = let a = c .before .before .before .before .before .args in
-    omega (arith, ap (λ (p : Paper PairFigures). p .figures .n) (c .before .pair-figures .ensures .1), pair-few (a .width) (a .height) (a .full-scale) (a .mask .now) (a .first .now) (a .second .now))
+    omega (arith, ap (λ (p : CountedPaper PairFigures). p .figures .n) (c .before .pair-figures .ensures .1), pair-few (a .width) (a .height) (a .full-scale) (a .mask .now) (a .first .now) (a .second .now))
 
 returns : tie.Need-returns
 returns c = c .together .ensures ∙ together-same (c .before .before .pair-figures .ensures .0) (c .before .dark-level .ensures .0)

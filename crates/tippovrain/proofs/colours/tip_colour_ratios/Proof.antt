@@ -4,7 +4,7 @@ use lib.IntN.{ℤ}
 use mir.Val.{toZ, ofZ}
 use mir.Syntax.{w64}
 use borrow.Author.Needs.{needs}
-use Rattle.verdict.specs.Answer.{Paper}
+use Rattle.verdict.specs.Answer.{CountedPaper}
 use Rattle.colour.specs.Colour.{Figures, ratio, paperOf}
 use Rattle.tippovrain.proofs.colours.tip_colour_ratios.Statement.{statement}
 use Rattle.tippovrain.proofs.colours.tip_colour_ratios.Tie as tie
@@ -24,14 +24,17 @@ returns c = let given = c .before .before .before .before .r .given in
     let back-r : toZ w64 (ofZ w64 (given .0 .0 .numerator)) ≡ given .0 .0 .numerator = search needs in
     let back-b : toZ w64 (ofZ w64 (given .0 .1 .0 .numerator)) ≡ given .0 .1 .0 .numerator = search needs in
     let back-gb : toZ w64 (ofZ w64 (given .0 .1 .1 .0 .numerator)) ≡ given .0 .1 .1 .0 .numerator = search needs in (
-      ap (λ (p : Paper Figures). p .number) e,
+      ap (λ (p : CountedPaper Figures). p .number) e,
       (
-        ap (λ (p : Paper Figures). p .place) e,
+        ap (λ (p : CountedPaper Figures). p .place) e,
         (
-          ap (λ (n : ℤ). ratio n (given .0 .0 .denominator)) back-r ∙ ap (λ (p : Paper Figures). p .figures .r) e,
+          ap (λ (p : CountedPaper Figures). p .over) e,
           (
-            ap (λ (n : ℤ). ratio n (given .0 .1 .0 .denominator)) back-b ∙ ap (λ (p : Paper Figures). p .figures .b) e,
-            ap (λ (n : ℤ). ratio n (given .0 .1 .1 .0 .denominator)) back-gb ∙ ap (λ (p : Paper Figures). p .figures .gb) e,
+            ap (λ (n : ℤ). ratio n (given .0 .0 .denominator)) back-r ∙ ap (λ (p : CountedPaper Figures). p .figures .r) e,
+            (
+              ap (λ (n : ℤ). ratio n (given .0 .1 .0 .denominator)) back-b ∙ ap (λ (p : CountedPaper Figures). p .figures .b) e,
+              ap (λ (n : ℤ). ratio n (given .0 .1 .1 .0 .denominator)) back-gb ∙ ap (λ (p : CountedPaper Figures). p .figures .gb) e,
+            ),
           ),
         ),
       ),
@@ -39,12 +42,15 @@ returns c = let given = c .before .before .before .before .r .given in
 
 returns-2 : tie.Need-returns-2
 returns-2 c = let e = sym (ap paperOf (c .before .refusal .given .1)) ∙ c .before .before .before .colour-ratios .ensures .1 in (
-  ap (λ (p : Paper Figures). p .number) e,
+  ap (λ (p : CountedPaper Figures). p .number) e,
   (
-    ap (λ (p : Paper Figures). p .place) e,
+    ap (λ (p : CountedPaper Figures). p .place) e,
     (
-      ap (λ (p : Paper Figures). p .figures .r) e,
-      (ap (λ (p : Paper Figures). p .figures .b) e, ap (λ (p : Paper Figures). p .figures .gb) e),
+      ap (λ (p : CountedPaper Figures). p .over) e,
+      (
+        ap (λ (p : CountedPaper Figures). p .figures .r) e,
+        (ap (λ (p : CountedPaper Figures). p .figures .b) e, ap (λ (p : CountedPaper Figures). p .figures .gb) e),
+      ),
     ),
   ),
 )

@@ -15,11 +15,11 @@ enum-known-refusal c = search needs
 
 returns : tie.Need-returns
 returns c = rw (← c .before .before .before .pair-figures .ensures .1, c .before .figures .given .1)
-    (refl, (refl, (refl, (refl, (refl, (refl, (refl, refl)))))))
+    (refl, (refl, (refl, (refl, (refl, (refl, (refl, (refl, refl))))))))
 
 returns-2 : tie.Need-returns-2
 returns-2 c = rw (← c .before .before .before .pair-figures .ensures .1, c .before .refusal .given .1)
-    (refl, (refl, (refl, (refl, (refl, (refl, (refl, refl)))))))
+    (refl, (refl, (refl, (refl, (refl, (refl, (refl, (refl, refl))))))))
 
 pub tip-pair-figures-spec : {M : Type 1} → statement M
 tip-pair-figures-spec =

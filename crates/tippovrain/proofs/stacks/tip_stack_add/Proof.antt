@@ -2,7 +2,7 @@
 use Prim.Native.Nat.{ℕ}
 use mathlib.Core.Path.{sym, ap, _∙_}
 use borrow.Author.Needs.{needs}
-use Rattle.verdict.specs.Answer.{Paper}
+use Rattle.verdict.specs.Answer.{CountedPaper}
 use Rattle.stack.specs.Add.{addPaperOf}
 use Rattle.tippovrain.proofs.stacks.tip_stack_add.Statement.{statement}
 use Rattle.tippovrain.proofs.stacks.tip_stack_add.Tie as tie
@@ -25,7 +25,7 @@ same-length-2 c = search needs
 returns : tie.Need-returns
 returns c = let call = c .before .before .before .before .before .before .before .stack-add .ensures in
     let e = sym (ap addPaperOf (c .before .held .given .1)) ∙ call .1 .0 in
-    (ap (λ (p : Paper ℕ). p .number) e, (ap (λ (p : Paper ℕ). p .place) e, (ap (λ (p : Paper ℕ). p .figures) e, call .1 .1)))
+    (ap (λ (p : CountedPaper ℕ). p .number) e, (ap (λ (p : CountedPaper ℕ). p .place) e, (ap (λ (p : CountedPaper ℕ). p .over) e, (ap (λ (p : CountedPaper ℕ). p .figures) e, call .1 .1))))
 
 same-length-3 : tie.Need-same-length-3
 same-length-3 c = search needs
@@ -36,7 +36,7 @@ same-length-4 c = search needs
 returns-2 : tie.Need-returns-2
 returns-2 c = let call = c .before .before .before .before .before .before .before .stack-add .ensures in
     let e = sym (ap addPaperOf (c .before .refusal .given .1)) ∙ call .1 .0 in
-    (ap (λ (p : Paper ℕ). p .number) e, (ap (λ (p : Paper ℕ). p .place) e, (ap (λ (p : Paper ℕ). p .figures) e, call .1 .1)))
+    (ap (λ (p : CountedPaper ℕ). p .number) e, (ap (λ (p : CountedPaper ℕ). p .place) e, (ap (λ (p : CountedPaper ℕ). p .over) e, (ap (λ (p : CountedPaper ℕ). p .figures) e, call .1 .1))))
 
 pub tip-stack-add-spec : {M : Type 1} → statement M
 tip-stack-add-spec =

@@ -9,14 +9,14 @@ use Rattle.tippovrain.proofs.stacks.tip_stack_variance.Tie as tie
 stack-variance-requires : tie.Need-stack-variance-requires
 stack-variance-requires c κs = search needs
 
-enum-known-over : tie.Need-enum-known-over
-enum-known-over c = search needs
+enum-known-upper : tie.Need-enum-known-upper
+enum-known-upper c = search needs
 
 enum-known-refusal : tie.Need-enum-known-refusal
 enum-known-refusal c = search needs
 
 returns : tie.Need-returns
-returns c = let e = sym (ap variancePaperOf (c .before .over .given .1)) ∙ c .before .before .before .stack-variance .ensures .1 in (
+returns c = let e = sym (ap variancePaperOf (c .before .upper .given .1)) ∙ c .before .before .before .stack-variance .ensures .1 in (
   ap (λ (p : Paper VarianceFigures). p .number) e,
   (
     ap (λ (p : Paper VarianceFigures). p .place) e,
@@ -36,4 +36,4 @@ returns-2 c = let e = sym (ap variancePaperOf (c .before .refusal .given .1)) �
 pub tip-stack-variance-spec : {M : Type 1} → statement M
 tip-stack-variance-spec =
     tie.close
-    (tie.spec stack-variance-requires enum-known-over enum-known-refusal returns returns-2)
+    (tie.spec stack-variance-requires enum-known-upper enum-known-refusal returns returns-2)
