@@ -1,14 +1,18 @@
 -- Demand 1: bad input gets document 01's refusal number with its place; all other numbers of the answer are zero, and no lent buffer changes.
+-- Document 02 d amends it for 6 alone: there one number more is not zero, the count of surveyed samples above full scale, over all frames of the call.
 -- Of every call, whatever buffers and numbers are handed in. That each call ends is what the check proves of a function with no `requires`.
 -- A buffer that is only read is lent as `&[..]`, which leaves it as it is; of those that are written each is named below.
-use Prim.Native.Nat.{ℕ}
+use Prim.Native.Nat.{ℕ, _+_}
 use mathlib.Core.List.{List}
 use mathlib.Core.Path.{_≡_, refl}
 use lib.ListN.{length}
-use Rattle.verdict.specs.Verdict.{numberOf, placeOf}
-use Rattle.verdict.specs.Answer.{Paper}
+use Rattle.laws.specs.First.{countTo}
+use Rattle.verdict.specs.Verdict.{numberOf, placeOf, overOf}
+use Rattle.verdict.specs.Answer.{Paper, CountedPaper}
 use Rattle.verdict.specs.declared.Verdict.{Verdict}
-use Rattle.verdict.proofs.Verdicts.{Test, Tabled, Refuses}
+use Rattle.verdict.proofs.Verdicts.{Test, Tabled, Refuses, RefusesCounting, never-over}
+use Rattle.window.specs.Shape.{sitesOf}
+use Rattle.window.specs.View.{above, seen}
 use Rattle.raw.specs.Unpack.{unpackVerdict, unpackPaper, unpackBuffer}
 use Rattle.raw.specs.Unpack as unpacking
 use Rattle.raw.proofs.Unpacks as raw-table
@@ -50,18 +54,32 @@ use Rattle.colour.specs.Colour.{colourVerdict, colourPaper}
 use Rattle.colour.specs.Colour as ratios
 use Rattle.colour.proofs.Judged as colour-table
 use Rattle.colour.proofs.Promises as colour
+use Rattle.stream.specs.Stream.{widthOf, heightOf, fullOf, maskOf, firstOf, secondOf}
 use Rattle.stream.specs.Job.{jobVerdict, jobPaper}
 use Rattle.stream.specs.Job as jobs
 use Rattle.stream.proofs.Promises as stream
 
--- of one call: what it tests, the numbers of its answer, and what else is so where it refuses
+-- of one call that cannot give 6: what it tests, the numbers of its answer, and what else is so where it refuses
 pub record Refusing {F : Type 0} (verdict : Verdict) (tests : List Test) (paper : Paper F) (Untouched : Type 0) : Type 0 where
-  -- a number is given, at a place, exactly where a test of the table has them and applies, and none before it does
+  -- a refusal is given, with its number and place, exactly where a test of the table has them and applies, and none before it does
   pub given : Tabled verdict tests
-  -- these are the paper's number and place
-  pub told : (paper .number ≡ numberOf verdict) × (paper .place ≡ placeOf verdict)
+  -- these are the paper's number and place, and nothing is counted
+  pub told : (paper .number ≡ numberOf verdict) × (paper .place ≡ placeOf verdict) × (overOf verdict ≡ 0)
   -- where the number is not 0 the rest is untouched, and where it is 0 so is the place
   pub refused : Refuses (paper .number) (paper .place) Untouched
+
+-- of one call that can, where so many samples of its frames are above full scale
+pub record RefusingOver {F : Type 0} (verdict : Verdict) (tests : List Test) (paper : CountedPaper F) (samples : ℕ) (Untouched : Type 0) : Type 0 where
+  -- a refusal is given, with its number, place and count, likewise
+  pub given : Tabled verdict tests
+  -- these are the paper's number, place and count
+  pub told : (paper .number ≡ numberOf verdict) × (paper .place ≡ placeOf verdict) × (paper .over ≡ overOf verdict)
+  -- where the number is not 0 the rest is untouched, and where it is 0 so is the place; the count is just so many at 6, and at least 1, and else 0
+  pub refused : RefusesCounting paper samples Untouched
+
+-- how many of a window's surveyed samples are above full scale
+abbrev over : ℕ → ℕ → ℕ → List ℕ → List ℕ → ℕ
+over w h full mask frame = countTo (sitesOf w h) (above full (seen mask frame))
 
 pub record Demand1 : Type 0 where
   pub unpack-raw10 : (w h : ℕ) (bytes out : List ℕ)
@@ -70,15 +88,15 @@ pub record Demand1 : Type 0 where
       (unpackBuffer w h bytes out ≡ out)
   pub pair-figures : (w h full : ℕ) (mask first second : List ℕ)
       → let paper = pairPaper w h full mask first second in
-      Refusing (pairVerdict w h full mask first second) (pair-table.tests w h full mask first second) paper
+      RefusingOver (pairVerdict w h full mask first second) (pair-table.tests w h full mask first second) paper (over w h full mask first + over w h full mask second)
       (paper .figures ≡ pair-numbers.noFigures)
   pub dark-level : (w h full black : ℕ) (mask frame : List ℕ)
       → let paper = darkPaper w h full black mask frame in
-      Refusing (darkVerdict w h full black mask frame) (dark-table.tests w h full black mask frame) paper
+      RefusingOver (darkVerdict w h full black mask frame) (dark-table.tests w h full black mask frame) paper (over w h full mask frame)
       (paper .figures ≡ levels.noFigures)
   pub stack-add : (w h full k : ℕ) (mask frame sums squares : List ℕ)
       → let paper = addPaper w h full k mask frame sums squares in
-      Refusing (addVerdict w h full k mask frame sums squares) (add-table.tests w h full k mask frame sums squares) paper
+      RefusingOver (addVerdict w h full k mask frame sums squares) (add-table.tests w h full k mask frame sums squares) paper (over w h full mask frame)
       ((paper .figures ≡ 0) × (addSums w h full k mask frame sums squares ≡ sums) × (addSquares w h full k mask frame sums squares ≡ squares))
   pub stack-variance : (w h full k : ℕ) (mask sums squares : List ℕ)
       → let paper = variance.variancePaper w h full k mask sums squares in
@@ -91,45 +109,45 @@ pub record Demand1 : Type 0 where
       (paper .figures ≡ noFigures)
   pub find-defects : (w h full t : ℕ) (mask frame out : List ℕ)
       → let paper = findPaper w h full t mask frame (length out) in
-      Refusing (findVerdict w h full t mask frame (length out)) (find-tests w h full t mask frame (length out)) paper
+      RefusingOver (findVerdict w h full t mask frame (length out)) (find-tests w h full t mask frame (length out)) paper (over w h full mask frame)
       ((paper .figures ≡ 0) × (findMask w h full t mask frame out ≡ out))
   pub repair : (w h full : ℕ) (mask frame outFrame outMask : List ℕ)
       → let paper = repairPaper w h full mask frame (length outFrame) (length outMask) in
-      Refusing (repairVerdict w h full mask frame (length outFrame) (length outMask)) (repair-tests w h full mask frame (length outFrame) (length outMask)) paper
+      RefusingOver (repairVerdict w h full mask frame (length outFrame) (length outMask)) (repair-tests w h full mask frame (length outFrame) (length outMask)) paper (over w h full mask frame)
       ((paper .figures ≡ 0)
       × (repairFrame w h full mask frame outFrame (length outMask) ≡ outFrame)
       × (repairMask w h full mask frame (length outFrame) outMask ≡ outMask))
   -- of rows and of columns
   pub defective-lines : (lines : ℕ → ℕ → plane-lines.Lines) (w h full : ℕ) (mask frame marks : List ℕ)
       → let paper = linesPaper lines w h full mask frame (length marks) in
-      Refusing (linesVerdict lines w h full mask frame (length marks)) (lines-table.tests lines w h full mask frame (length marks)) paper
+      RefusingOver (linesVerdict lines w h full mask frame (length marks)) (lines-table.tests lines w h full mask frame (length marks)) paper (over w h full mask frame)
       (linesBuffer lines w h full mask frame marks ≡ marks)
   pub colour-ratios : (w h full black order : ℕ) (mask frame : List ℕ)
       → let paper = colourPaper w h full black order mask frame in
-      Refusing (colourVerdict w h full black order mask frame) (colour-table.tests w h full black order mask frame) paper
+      RefusingOver (colourVerdict w h full black order mask frame) (colour-table.tests w h full black order mask frame) paper (over w h full mask frame)
       (paper .figures ≡ ratios.noFigures)
   pub job : (s : List ℕ)
       → let paper = jobPaper s in
-      Refusing (jobVerdict s) (stream.tests s) paper
+      RefusingOver (jobVerdict s) (stream.tests s) paper (over (widthOf s) (heightOf s) (fullOf s) (maskOf s) (firstOf s) + over (widthOf s) (heightOf s) (fullOf s) (maskOf s) (secondOf s))
       (paper .figures ≡ jobs.noFigures)
 
 pub demand-1 : Demand1
 unfolding unpackPaper pairPaper darkPaper addPaper variance.variancePaper patternPaper findPaper repairPaper linesPaper colourPaper jobPaper
 demand-1 = record {
-  unpack-raw10 = λ w h bytes out. record { given = raw.given w h bytes out; told = (refl, refl); refused = raw.refused w h bytes out };
-  pair-figures = λ w h full mask first second. record { given = pair.given w h full mask first second; told = (refl, refl); refused = pair.refused w h full mask first second };
-  dark-level = λ w h full black mask frame. record { given = dark.given w h full black mask frame; told = (refl, refl); refused = dark.refused w h full black mask frame };
-  stack-add = λ w h full k mask frame sums squares. record { given = stack.add-given w h full k mask frame sums squares; told = (refl, refl); refused = stack.add-refused w h full k mask frame sums squares };
-  stack-variance = λ w h full k mask sums squares. record { given = stack.variance-given w h full k mask sums squares; told = (refl, refl); refused = stack.variance-refused w h full k mask sums squares };
-  pattern-noise = λ lines w h full k mask sums. record { given = pattern.given lines w h full k mask sums; told = (refl, refl); refused = pattern.refused lines w h full k mask sums };
-  find-defects = λ w h full t mask frame out. record { given = finding.given w h full t mask frame out; told = (refl, refl); refused = finding.refused w h full t mask frame out };
-  repair = λ w h full mask frame outFrame outMask. record { given = repairing.given w h full mask frame outFrame outMask; told = (refl, refl); refused = repairing.refused w h full mask frame outFrame outMask };
-  defective-lines = λ lines w h full mask frame marks. record { given = marking.given lines w h full mask frame marks; told = (refl, refl); refused = marking.refused lines w h full mask frame marks };
-  colour-ratios = λ w h full black order mask frame. record { given = colour.given w h full black order mask frame; told = (refl, refl); refused = colour.refused w h full black order mask frame };
-  job = λ s. record { given = stream.given s; told = (refl, refl); refused = stream.refused s };
+  unpack-raw10 = λ w h bytes out. record { given = raw.given w h bytes out; told = (refl, refl, never-over _ (raw.given w h bytes out) refl refl); refused = raw.refused w h bytes out };
+  pair-figures = λ w h full mask first second. record { given = pair.given w h full mask first second; told = (refl, refl, refl); refused = pair.refused w h full mask first second };
+  dark-level = λ w h full black mask frame. record { given = dark.given w h full black mask frame; told = (refl, refl, refl); refused = dark.refused w h full black mask frame };
+  stack-add = λ w h full k mask frame sums squares. record { given = stack.add-given w h full k mask frame sums squares; told = (refl, refl, refl); refused = stack.add-refused w h full k mask frame sums squares };
+  stack-variance = λ w h full k mask sums squares. record { given = stack.variance-given w h full k mask sums squares; told = (refl, refl, never-over _ (stack.variance-given w h full k mask sums squares) refl refl); refused = stack.variance-refused w h full k mask sums squares };
+  pattern-noise = λ lines w h full k mask sums. record { given = pattern.given lines w h full k mask sums; told = (refl, refl, never-over _ (pattern.given lines w h full k mask sums) refl refl); refused = pattern.refused lines w h full k mask sums };
+  find-defects = λ w h full t mask frame out. record { given = finding.given w h full t mask frame out; told = (refl, refl, refl); refused = finding.refused w h full t mask frame out };
+  repair = λ w h full mask frame outFrame outMask. record { given = repairing.given w h full mask frame outFrame outMask; told = (refl, refl, refl); refused = repairing.refused w h full mask frame outFrame outMask };
+  defective-lines = λ lines w h full mask frame marks. record { given = marking.given lines w h full mask frame marks; told = (refl, refl, refl); refused = marking.refused lines w h full mask frame marks };
+  colour-ratios = λ w h full black order mask frame. record { given = colour.given w h full black order mask frame; told = (refl, refl, refl); refused = colour.refused w h full black order mask frame };
+  job = λ s. record { given = stream.given s; told = (refl, refl, refl); refused = stream.refused s };
 }
 
--- and the paper's numbers, of which all this speaks, are those of the answer: 0, 0 and the figures, or the refusal's and zeros
+-- and the paper's numbers, of which all this speaks, are those of the answer: zeros and the figures, or the refusal's and zeros
 pub record Numbers : Type 0 where
   pub unpack-raw10 : (w h : ℕ) (bytes out : List ℕ)
       → unpacking.paperOf (unpacking.unpackAnswer w h (length bytes) (length out)) ≡ unpackPaper w h (length bytes) (length out)

@@ -1,16 +1,18 @@
 -- Demand 2: in every call that takes a mask only surveyed sites count: what a frame holds at any other site changes no figure, no verdict,
--- no refusal. And no call turns a gap into anything else. `Agree mask f g`: f and g have one length, and hold the same at every surveyed site.
--- Answers are compared; the paper's numbers are those of the answer (`numbers` of Demand1), so they are the same too.
+-- no refusal, nor the count that a 6 has (document 02, d). And no call turns a gap into anything else. `Agree mask f g`: f and g have one length,
+-- and hold the same at every surveyed site. Answers are compared, a refusal's number, place and count among them; the paper's numbers are those
+-- of the answer (`numbers` of Demand1), so they are the same too.
 use Prim.Native.Nat.{ℕ, _<_}
 use mathlib.Core.Bool.{true}
 use mathlib.Core.List.{List}
 use mathlib.Core.Logic.{_⊎_}
 use mathlib.Core.Path.{_≡_}
 use lib.ListN.{length, getD}
+use Rattle.laws.specs.First.{countTo}
 use Rattle.verdict.specs.declared.Verdict.the-variants as verdict
 use Rattle.window.specs.Shape.{sitesOf}
-use Rattle.window.specs.View.{surveyed}
-use Rattle.window.proofs.Views.{Agree}
+use Rattle.window.specs.View.{surveyed, above, seen}
+use Rattle.window.proofs.Views.{Agree, same-view}
 use Rattle.pair.specs.Pair.{pairAnswer}
 use Rattle.pair.proofs.Promises as pair
 use Rattle.dark.specs.Dark.{darkAnswer}
@@ -36,6 +38,9 @@ use Rattle.stream.proofs.Promises as stream
 
 -- ---- only surveyed sites count
 pub record Blind : Type 0 where
+  -- of any frame: how many of its surveyed samples are above full scale
+  pub samples-over : (w h full : ℕ) {mask frame other : List ℕ} → Agree mask frame other
+      → countTo (sitesOf w h) (above full (seen mask frame)) ≡ countTo (sitesOf w h) (above full (seen mask other))
   pub pair-figures : (w h full : ℕ) {mask first first′ second second′ : List ℕ} → Agree mask first first′ → Agree mask second second′
       → pairAnswer w h full mask first second ≡ pairAnswer w h full mask first′ second′
   pub dark-level : (w h full black : ℕ) (mask frame other : List ℕ) → Agree mask frame other
@@ -94,6 +99,7 @@ pub record Demand2 : Type 0 where
 pub demand-2 : Demand2
 demand-2 = record {
   blind = record {
+    samples-over = λ w h full a. rw (same-view a);
     pair-figures = λ w h full a b. pair.blind w h full a b;
     dark-level = dark.blind;
     stack-add = stack.add-blind;

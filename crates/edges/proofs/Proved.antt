@@ -7,15 +7,15 @@ use Rattle.laws.specs.Signed.{_⊖_, sumToℤ}
 use Rattle.laws.specs.Sum.{sumTo, sumIn, sumBox}
 use Rattle.laws.specs.Table.{tabulate}
 use Rattle.exact.specs.Root.{root, rootTo}
-use Rattle.verdict.specs.Verdict.{_⨟_, refuseIf, refuseFirst}
+use Rattle.verdict.specs.Verdict.{_⨟_, refuseWith, refuseFirst}
 use Rattle.window.specs.Shape.{badCount, badSide, badSides, badScale, sitesOf}
 use Rattle.window.specs.View.{seenAt, seen, one}
-use Rattle.refusals.specs.Judge.{shapeOf, maskVerdict, frameVerdict}
+use Rattle.refusals.specs.Judge.{shapeOf, samplesIn, overIn, maskVerdict, frameVerdict, framesVerdict}
 use Rattle.plane.specs.Plane.{boxSum}
 use Rattle.raw.specs.Packed.{joined, sampleAt}
 use Rattle.raw.specs.Unpack.{unpackVerdict, unpackAnswer, unpackBuffer}
 use Rattle.pair.specs.Figures.{numerator, spreadOf}
-use Rattle.pair.specs.Pair.{framesVerdict, pairVerdict, pairAnswer}
+use Rattle.pair.specs.Pair.{pairVerdict, pairAnswer}
 use Rattle.dark.specs.Dark.{aboveBlack, darkVerdict, darkAnswer}
 use Rattle.pattern.specs.Lines.{lineTotal}
 use Rattle.pattern.specs.Figures.{stepOf, tenAround, standsOut, deviation, figuresOf}
@@ -27,7 +27,7 @@ use Rattle.lines.specs.Marks.{linesVerdict, linesAnswer, linesBuffer}
 use Rattle.edges.specs.Table.{Edges, Beside}
 
 pub edges : Edges
-unfolding round ofBits firstTo greatestTo greatestIn _⊖_ sumToℤ sumTo sumIn sumBox tabulate shapeOf maskVerdict frameVerdict boxSum badSide badSides badScale sitesOf _⨟_ refuseIf refuseFirst seenAt seen one root rootTo joined sampleAt unpackVerdict unpackAnswer unpackBuffer numerator spreadOf framesVerdict pairVerdict pairAnswer aboveBlack darkVerdict darkAnswer nearSum usedThreshold far foundAt markedAt foundCount findVerdict findAnswer findMask lineTotal stepOf tenAround standsOut deviation figuresOf badCount patternVerdict patternAnswer before after pooled defective markOf markAt linesVerdict linesAnswer linesBuffer
+unfolding round ofBits firstTo greatestTo greatestIn _⊖_ sumToℤ sumTo sumIn sumBox tabulate shapeOf maskVerdict frameVerdict boxSum badSide badSides badScale sitesOf _⨟_ refuseWith refuseFirst samplesIn overIn seenAt seen one root rootTo joined sampleAt unpackVerdict unpackAnswer unpackBuffer numerator spreadOf framesVerdict pairVerdict pairAnswer aboveBlack darkVerdict darkAnswer nearSum usedThreshold far foundAt markedAt foundCount findVerdict findAnswer findMask lineTotal stepOf tenAround standsOut deviation figuresOf badCount patternVerdict patternAnswer before after pooled defective markOf markAt linesVerdict linesAnswer linesBuffer
 edges = record {
   K1 = refl;
   K2 = refl;
@@ -42,7 +42,7 @@ edges = record {
 }
 
 pub beside : Beside
-unfolding round firstTo greatestTo greatestIn _⊖_ sumToℤ sumTo sumIn sumBox tabulate shapeOf maskVerdict frameVerdict boxSum badSide badSides badScale sitesOf _⨟_ refuseIf refuseFirst seenAt seen one root rootTo numerator spreadOf framesVerdict pairVerdict pairAnswer nearSum usedThreshold far foundAt markedAt foundCount findVerdict findAnswer findMask lineTotal stepOf tenAround standsOut deviation figuresOf badCount patternVerdict patternAnswer before after pooled defective markOf markAt linesVerdict linesBuffer
+unfolding round firstTo greatestTo greatestIn _⊖_ sumToℤ sumTo sumIn sumBox tabulate shapeOf maskVerdict frameVerdict boxSum badSide badSides badScale sitesOf _⨟_ refuseWith refuseFirst samplesIn overIn seenAt seen one root rootTo numerator spreadOf framesVerdict pairVerdict pairAnswer aboveBlack darkVerdict darkAnswer nearSum usedThreshold far foundAt markedAt foundCount findVerdict findAnswer findMask lineTotal stepOf tenAround standsOut deviation figuresOf badCount patternVerdict patternAnswer before after pooled defective markOf markAt linesVerdict linesBuffer
 beside = record {
   dark-column = refl;
   dark-row = refl;
@@ -51,6 +51,10 @@ beside = record {
   lone-95 = ((refl, refl), (refl, refl));
   lone-101 = (refl, refl);
   one-eighth = (refl, refl);
+  both-over = refl;
+  second-over = refl;
+  one-over = refl;
+  none-over = refl;
   met-unmarked = refl;
   met-marked = refl;
 }
