@@ -4,11 +4,20 @@ use raw::Unpacked;
 use stack::Added;
 use verdict::Refusal;
 
+// Only 6 has a count.
+fn count(over: u64) {
+    if over != 0 {
+        io::write_all(1, b" count ");
+        io::print_decimal(1, over);
+    }
+}
+
 fn refused(refusal: Refusal) {
     io::write_all(1, b"refused ");
     io::print_decimal(1, refusal.number);
     io::write_all(1, b" at ");
     io::print_decimal(1, refusal.place as u64);
+    count(refusal.over);
     io::write_all(1, b"\n");
 }
 

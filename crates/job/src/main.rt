@@ -9,10 +9,18 @@ fn signed(z: i64) {
     io::print_decimal(1, exact::size(z));
 }
 
-fn over(denominator: u64) {
+fn under(denominator: u64) {
     io::write_all(1, b"/");
     io::print_decimal(1, denominator);
     io::write_all(1, b"\n");
+}
+
+// Only 6 has a count: there it is at least 1 (the law `refused`).
+fn count(over: u64) {
+    if over != 0 {
+        io::write_all(1, b" count ");
+        io::print_decimal(1, over);
+    }
 }
 
 fn refused(refusal: Refusal) {
@@ -20,6 +28,7 @@ fn refused(refusal: Refusal) {
     io::print_decimal(1, refusal.number);
     io::write_all(1, b" at ");
     io::print_decimal(1, refusal.place as u64);
+    count(refusal.over);
     io::write_all(1, b"\n");
 }
 
@@ -42,13 +51,13 @@ fn main() {
             io::print_decimal(1, sites);
             io::write_all(1, b"\nvariance ");
             io::print_decimal(1, p);
-            over(q);
+            under(q);
             io::write_all(1, b"noise ");
             io::print_decimal(1, r);
-            over(r_over);
+            under(r_over);
             io::write_all(1, b"dark ");
             signed(dark);
-            over(dark_over);
+            under(dark_over);
         }
     }
 }
