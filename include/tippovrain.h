@@ -19,21 +19,23 @@
  *       const uint8_t mask[8] = {0, 0, 0, 0, 0, 1, 0, 0};
  *       const uint16_t first[8] = {100, 101, 102, 103, 100, 65535, 102, 103};
  *       const uint16_t second[8] = {101, 101, 102, 104, 100, 65535, 103, 103};
- *       uint64_t refusal, place, n, p, q, r;
+ *       uint64_t refusal, place, over, n, p, q, r;
  *       double variance, noise;
  *
  *       refusal = tip_pair_figures(4, 2, 1023, mask, 8, first, 8, second, 8,
- *                                  &place, &n, &p, &q, &r, &variance, &noise);
+ *                                  &place, &over, &n, &p, &q, &r, &variance, &noise);
  *       if (refusal != 0) {
- *           fprintf(stderr, "refused %d at %d\n", (int)refusal, (int)place);
+ *           fprintf(stderr, "refused %d at %d", (int)refusal, (int)place);
+ *           if (refusal == 6) fprintf(stderr, " count %d", (int)over);
+ *           fprintf(stderr, "\n");
  *           return 1;
  *       }
  *       printf("noise %f grey levels over %d sites\n", noise, (int)n);
  *       return 0;
  *   }
  *
- * It prints 'noise 0.348214 grey levels over 7 sites'. With 0 for the gap's code it would say 'refused 6 at 5': by the
- * table below, the sample at site 5 is above full scale.
+ * It prints 'noise 0.348214 grey levels over 7 sites'. With 0 for the gap's code it would say
+ * 'refused 6 at 5 count 2': by the table below, the sample at site 5 is above full scale, here in both frames.
  *
  * Words, units and ranges, the same in every call:
  *  - A window is row by row. Its sides, width and height, are counted in sites, each even and from 2 to 128.
@@ -50,7 +52,8 @@
  * Conventions of every call:
  *  - The result is the refusal's number, 0 where the call is accepted.
  *  - Every other number of the answer goes through a pointer of its own, which is written on EVERY call. On a
- *    refusal it gets 0, a double in every bit, place aside; where the call is accepted, place gets 0.
+ *    refusal it gets 0, a double in every bit, but for place, and for over where the refusal is 6; where the call is
+ *    accepted, place and over get 0.
  *  - On a refusal every lent buffer stays as it was, to the last byte.
  *  - Any value of a parameter's type may be handed in, sides and lengths included: what is out of range is refused.
  *  - Where a figure is two whole numbers, numerator over denominator, they are not reduced, and in an accepted call
@@ -59,8 +62,8 @@
  * The caller's fault, and not tested for:
  *  - a NULL or misaligned pointer. An empty buffer needs a pointer too, any that is neither;
  *  - a length beyond the memory that the pointer leads to;
- *  - a buffer that the call writes and that overlaps another buffer, or a pointer for a number that overlaps
- *    a buffer or another such pointer. Two buffers that are only read may be one.
+ *  - a buffer that the call writes and that overlaps another buffer, or a pointer for a number, place and over among
+ *    them, that overlaps a buffer or another such pointer. Two buffers that are only read may be one.
  *
  * Refusals. They are tested in ascending number, and the first that applies is given; each call names the ones it
  * tests. Two calls have another order, and say so: tip_colour_ratios and tip_job.
@@ -72,7 +75,7 @@
  *        frame count above 100 (or 0 in the stack variance and pattern noise)
  *    4   a lent buffer's length is not exactly the one needed
  *    5   a mask code is above 3
- *    6   a surveyed sample is above full scale
+ *    6   a surveyed sample is above full scale; over says how many are
  *    7   too few: fewer than 2 surveyed sites (pair), none (dark level, stack variance, a plane's centre in colour
  *        ratios), or fewer than 2 frames (stack variance)
  *    8   pattern noise, and some mask code is not 0
@@ -92,6 +95,11 @@
  * The place of 5 and 6 is the first offending site, as its number in its own frame; of 20 to 23 an offset in the
  * stream, in bytes from 0; of any other refusal it is 0. A 6 of two frames is the first frame's where the first's
  * sample at that site is above full scale, else the second's.
+ *
+ * Every call that can give 6 writes over. Of a 6 it is how many surveyed samples are above full scale, in all frames
+ * of the call, wherever the place is: 1 to width * height, and with two frames up to twice that. Of any other refusal,
+ * and where the call is accepted, it is 0. A sample at full scale is not counted, nor is one at any code but 0. One hot
+ * site gives 1, or with two frames 2; a wrong exposure or a wrong full_scale gives many.
  */
 #ifndef TIPPOVRAIN_H
 #define TIPPOVRAIN_H
@@ -135,6 +143,8 @@ uint64_t tip_unpack_raw10(size_t width, size_t height,
  *   first,       width * height samples each, only read; a sample at any code but 0 may be any number, and changes
  *   second       nothing. Both may be one buffer: p is then 0
  *   place        written: the first offending site for 5 and 6, else 0
+ *   over         written: for 6 how many surveyed samples of both frames are above full_scale, 1 to 2 * width * height;
+ *                else 0
  *   n            written: the count of surveyed sites, 2 to 16384
  *   p            written: n * (sum of d * d) - (sum of d) * (sum of d), 0 to the square of n * full_scale. It is 0
  *                exactly where all d are equal. Like q it is below 2^53, so exact as a double
@@ -158,16 +168,18 @@ uint64_t tip_unpack_raw10(size_t width, size_t height,
  *
  *   const uint8_t mask[4] = {0, 0, 0, 0};
  *   const uint16_t first[4] = {100, 101, 102, 103}, second[4] = {101, 101, 102, 104};
- *   uint64_t place, n, p, q, r;
+ *   uint64_t place, over, n, p, q, r;
  *   double variance, noise;
- *   tip_pair_figures(2, 2, 1023, mask, 4, first, 4, second, 4, &place, &n, &p, &q, &r, &variance, &noise);
+ *   tip_pair_figures(2, 2, 1023, mask, 4, first, 4, second, 4, &place, &over, &n, &p, &q, &r, &variance, &noise);
  *                                       gives 0, and n is 4, p 4, q 32, r 90, variance 0.125, noise 0.3515625
+ *
+ *   With full_scale 101 it gives 6, place is 2 and over 4: sites 2 and 3 of both frames.
  */
 uint64_t tip_pair_figures(size_t width, size_t height, uint64_t full_scale,
                           const uint8_t *mask, size_t mask_len,
                           const uint16_t *first, size_t first_len,
                           const uint16_t *second, size_t second_len,
-                          uint64_t *place, uint64_t *n, uint64_t *p, uint64_t *q, uint64_t *r,
+                          uint64_t *place, uint64_t *over, uint64_t *n, uint64_t *p, uint64_t *q, uint64_t *r,
                           double *variance, double *noise);
 
 /*
@@ -179,6 +191,7 @@ uint64_t tip_pair_figures(size_t width, size_t height, uint64_t full_scale,
  *   mask          width * height codes, only read: 0 surveyed, 1 gap, 2 defect, 3 filled
  *   frame         width * height samples, only read; a sample at any code but 0 may be any number, and changes nothing
  *   place         written: the first offending site for 5 and 6, else 0
+ *   over          written: for 6 how many surveyed samples are above full_scale, 1 to width * height; else 0
  *   numerator     written: sum - black_level * n
  *   denominator   written: n
  *
@@ -186,14 +199,17 @@ uint64_t tip_pair_figures(size_t width, size_t height, uint64_t full_scale,
  *
  *   const uint8_t mask[4] = {0, 0, 0, 0};
  *   const uint16_t frame[4] = {60, 64, 64, 64};
- *   uint64_t place, denominator;
+ *   uint64_t place, over, denominator;
  *   int64_t numerator;
- *   tip_dark_level(2, 2, 1023, 64, mask, 4, frame, 4, &place, &numerator, &denominator);    gives 0, and -4 / 4
+ *   tip_dark_level(2, 2, 1023, 64, mask, 4, frame, 4, &place, &over, &numerator, &denominator);
+ *                                       gives 0, and -4 / 4
+ *
+ *   With 1024 for each 64 of the frame it gives 6, place is 1 and over 3.
  */
 uint64_t tip_dark_level(size_t width, size_t height, uint64_t full_scale, uint64_t black_level,
                         const uint8_t *mask, size_t mask_len,
                         const uint16_t *frame, size_t frame_len,
-                        uint64_t *place, int64_t *numerator, uint64_t *denominator);
+                        uint64_t *place, uint64_t *over, int64_t *numerator, uint64_t *denominator);
 
 /*
  * Adds a frame to a stack. The caller lends a sum and a sum of squares for each site, all 0 at first, and keeps the
@@ -208,6 +224,7 @@ uint64_t tip_dark_level(size_t width, size_t height, uint64_t full_scale, uint64
  *   sums         width * height sums, grey levels, written where the call is accepted
  *   squares      width * height sums of squares, grey levels squared, written where the call is accepted
  *   place        written: the first offending site for 5 and 6, else 0
+ *   over         written: for 6 how many surveyed samples are above full_scale, 1 to width * height; else 0
  *   count        written: frames + 1; on a refusal 0, and the stack still has its frames
  *
  * Refusals, in the order tested: 1; 2; 3 (frames above 100); 4 (mask, frame, sums or squares); 5; 6; 11 (at a surveyed
@@ -217,8 +234,8 @@ uint64_t tip_dark_level(size_t width, size_t height, uint64_t full_scale, uint64
  *   const uint8_t mask[4] = {0, 0, 0, 1};
  *   const uint16_t frame[4] = {100, 101, 102, 65535};
  *   uint32_t sums[4] = {0}, squares[4] = {0};
- *   uint64_t place, count;
- *   tip_stack_add(2, 2, 1023, 0, mask, 4, frame, 4, sums, 4, squares, 4, &place, &count);
+ *   uint64_t place, over, count;
+ *   tip_stack_add(2, 2, 1023, 0, mask, 4, frame, 4, sums, 4, squares, 4, &place, &over, &count);
  *                                       gives 0, count is 1, sums 100 101 102 0, squares 10000 10201 10404 0
  */
 uint64_t tip_stack_add(size_t width, size_t height, uint64_t full_scale, uint64_t frames,
@@ -226,7 +243,7 @@ uint64_t tip_stack_add(size_t width, size_t height, uint64_t full_scale, uint64_
                        const uint16_t *frame, size_t frame_len,
                        uint32_t *sums, size_t sums_len,
                        uint32_t *squares, size_t squares_len,
-                       uint64_t *place, uint64_t *count);
+                       uint64_t *place, uint64_t *over, uint64_t *count);
 
 /*
  * The variance of a stack, in grey levels squared, from the sums and sums of squares that tip_stack_add has built.
@@ -319,6 +336,7 @@ uint64_t tip_pattern_horizontal(size_t width, size_t height, uint64_t full_scale
  *   frame        width * height samples, only read; a sample at any code but 0 may be any number, and changes nothing
  *   out_mask     width * height codes, each written: 2 where a site is newly found, else the code of mask
  *   place        written: the first offending site for 5 and 6, else 0
+ *   over         written: for 6 how many surveyed samples are above full_scale, 1 to width * height; else 0
  *   count        written: how many sites are newly found (were 0 in mask and are 2 in out_mask), 0 on a refusal
  *
  * Refusals, in the order tested: 1; 2; 3 (threshold above 4095); 4 (mask, frame or out_mask); 5; 6.
@@ -326,8 +344,8 @@ uint64_t tip_pattern_horizontal(size_t width, size_t height, uint64_t full_scale
  *   const uint8_t mask[16] = {0};
  *   const uint16_t frame[16] = {64, 64, 64, 64, 64, 102, 64, 64, 64, 64, 64, 64, 64, 64, 64, 64};
  *   uint8_t out_mask[16];
- *   uint64_t place, count;
- *   tip_find_defects(4, 4, 1023, 28, mask, 16, frame, 16, out_mask, 16, &place, &count);
+ *   uint64_t place, over, count;
+ *   tip_find_defects(4, 4, 1023, 28, mask, 16, frame, 16, out_mask, 16, &place, &over, &count);
  *                                          gives 0, count is 1, and out_mask is 2 at site 5, 0 elsewhere
  *
  *   With 101 at site 5 the count is 0 at threshold 28, and 1 at threshold 0.
@@ -336,7 +354,7 @@ uint64_t tip_find_defects(size_t width, size_t height, uint64_t full_scale, uint
                           const uint8_t *mask, size_t mask_len,
                           const uint16_t *frame, size_t frame_len,
                           uint8_t *out_mask, size_t out_mask_len,
-                          uint64_t *place, uint64_t *count);
+                          uint64_t *place, uint64_t *over, uint64_t *count);
 
 /*
  * Repair. A site of code 2 with at least one surveyed site (code 0) among its eight plane neighbours, two sites away
@@ -349,6 +367,7 @@ uint64_t tip_find_defects(size_t width, size_t height, uint64_t full_scale, uint
  *   out_frame    width * height samples, each written
  *   out_mask     width * height codes, each written
  *   place        written: the first offending site for 5 and 6, else 0
+ *   over         written: for 6 how many surveyed samples are above full_scale, 1 to width * height; else 0
  *   filled       written: how many sites were filled (were 2 in mask and are 3 in out_mask), 0 on a refusal
  *
  * Refusals, in the order tested: 1; 2; 4 (mask, frame, out_frame or out_mask); 5; 6.
@@ -357,8 +376,8 @@ uint64_t tip_find_defects(size_t width, size_t height, uint64_t full_scale, uint
  *   const uint16_t frame[16] = {64, 64, 64, 64, 64, 999, 64, 65, 64, 64, 64, 64, 64, 66, 64, 66};
  *   uint16_t out_frame[16];
  *   uint8_t out_mask[16];
- *   uint64_t place, filled;
- *   tip_repair(4, 4, 1023, mask, 16, frame, 16, out_frame, 16, out_mask, 16, &place, &filled);
+ *   uint64_t place, over, filled;
+ *   tip_repair(4, 4, 1023, mask, 16, frame, 16, out_frame, 16, out_mask, 16, &place, &over, &filled);
  *                                          gives 0, filled is 1, and site 5 is 66 with code 3: (65 + 66 + 66) / 3
  */
 uint64_t tip_repair(size_t width, size_t height, uint64_t full_scale,
@@ -366,7 +385,7 @@ uint64_t tip_repair(size_t width, size_t height, uint64_t full_scale,
                     const uint16_t *frame, size_t frame_len,
                     uint16_t *out_frame, size_t out_frame_len,
                     uint8_t *out_mask, size_t out_mask_len,
-                    uint64_t *place, uint64_t *filled);
+                    uint64_t *place, uint64_t *over, uint64_t *filled);
 
 /*
  * Marks the defective rows of each of the four planes, height / 2 to a plane. A row with c > 0 surveyed sites (mask
@@ -381,36 +400,37 @@ uint64_t tip_repair(size_t width, size_t height, uint64_t full_scale,
  *   marks        2 * height bytes, each written: 1 for a defective row, 0 for any other; the height / 2 rows of
  *                plane (0,0), then of (0,1), (1,0), (1,1): (row parity, column parity)
  *   place        written: the first offending site for 5 and 6, else 0
+ *   over         written: for 6 how many surveyed samples are above full_scale, 1 to width * height; else 0
  *
  * Refusals, in the order tested: 1; 2; 4 (mask, frame or marks); 5; 6; 9 (height below 18).
  *
  *   uint8_t mask[36] = {0}, marks[36];
  *   uint16_t frame[36];
- *   uint64_t place;
+ *   uint64_t place, over;
  *   for (int i = 0; i < 36; i++) frame[i] = 100;
  *   frame[17] = 103;                                     row 8, column 1: row 4 of plane (0,1)
- *   tip_defective_rows(2, 18, 1023, mask, 36, frame, 36, marks, 36, &place);
+ *   tip_defective_rows(2, 18, 1023, mask, 36, frame, 36, marks, 36, &place, &over);
  *                                                        gives 0, and marks[13] is 1, every other mark 0
  */
 uint64_t tip_defective_rows(size_t width, size_t height, uint64_t full_scale,
                             const uint8_t *mask, size_t mask_len,
                             const uint16_t *frame, size_t frame_len,
                             uint8_t *marks, size_t marks_len,
-                            uint64_t *place);
+                            uint64_t *place, uint64_t *over);
 
 /*
  * Marks the defective columns of each of the four planes: as tip_defective_rows, with columns for rows. marks has
  * 2 * width bytes, width / 2 for each plane; 9 is given for a width below 18.
  *
  *   With mask, frame and marks as above, and frame[26] (row 1, column 8: column 4 of plane (1,0)) 103 instead:
- *   tip_defective_columns(18, 2, 1023, mask, 36, frame, 36, marks, 36, &place);
+ *   tip_defective_columns(18, 2, 1023, mask, 36, frame, 36, marks, 36, &place, &over);
  *                                                        gives 0, and marks[22] is 1, every other mark 0
  */
 uint64_t tip_defective_columns(size_t width, size_t height, uint64_t full_scale,
                                const uint8_t *mask, size_t mask_len,
                                const uint16_t *frame, size_t frame_len,
                                uint8_t *marks, size_t marks_len,
-                               uint64_t *place);
+                               uint64_t *place, uint64_t *over);
 
 /*
  * Colour ratios of the four planes' centres: R, B and Gb over Gr, pure numbers.
@@ -428,22 +448,23 @@ uint64_t tip_defective_columns(size_t width, size_t height, uint64_t full_scale,
  *   mask            width * height codes, only read: 0 surveyed, 1 gap, 2 defect, 3 filled
  *   frame           width * height samples, only read; a sample at any code but 0 may be any number
  *   place           written: the first offending site for 5 and 6, else 0
+ *   over            written: for 6 how many surveyed samples are above full_scale, 1 to width * height; else 0
  *   the other six   written: numerator and denominator of R/Gr, of B/Gr and of Gb/Gr
  *
  * Refusals, in the order tested: 1; 2; 3 (black_level above full_scale, bayer_order above 3); 4 (mask or frame);
  * 5; 6; 9 (width below 64 or height below 48, even with no surveyed site); 7 (no surveyed site in some plane's
  * centre); 10 (T(Gr) not above 0). 9 before 7 is the one exception to ascending numbers. 5 and 6 look at the whole
- * window.
+ * window, so over counts outside the centres too.
  *
  *   64 * 48 samples of 100, but 164 at even rows and columns; mask all 0:
- *   tip_colour_ratios(64, 48, 1023, 64, 0, mask, 3072, frame, 3072, &place, &rn, &rd, &bn, &bd, &gn, &gd);
+ *   tip_colour_ratios(64, 48, 1023, 64, 0, mask, 3072, frame, 3072, &place, &over, &rn, &rd, &bn, &bd, &gn, &gd);
  *   gives 0, and R/Gr is 58982400/21233664, B/Gr and Gb/Gr are 21233664/21233664
  */
 uint64_t tip_colour_ratios(size_t width, size_t height, uint64_t full_scale, uint64_t black_level,
                            uint64_t bayer_order,
                            const uint8_t *mask, size_t mask_len,
                            const uint16_t *frame, size_t frame_len,
-                           uint64_t *place,
+                           uint64_t *place, uint64_t *over,
                            int64_t *r_numerator, uint64_t *r_denominator,
                            int64_t *b_numerator, uint64_t *b_denominator,
                            int64_t *gb_numerator, uint64_t *gb_denominator);
@@ -458,6 +479,7 @@ uint64_t tip_colour_ratios(size_t width, size_t height, uint64_t full_scale, uin
  *   input   the stream, only read
  *   place   written: the offset of the field's first byte for 20, 21 and 22, of the first extra byte for 23, the site
  *           for 5 and 6, else 0
+ *   over    written: for 6 how many surveyed samples of both frames are above full scale, as tip_pair_figures; else 0
  *   sites   written: n, the count of surveyed sites
  *   p, q    written: the variance of the pair is p / q grey levels squared, as tip_pair_figures
  *   r       written: the noise of the pair is r / (64 * n) grey levels, likewise
@@ -468,12 +490,17 @@ uint64_t tip_colour_ratios(size_t width, size_t height, uint64_t full_scale, uin
  * there. After field 2: 1, then 24 (a side above 64). After field 0: 23 (bytes follow), then the library's refusals:
  * 2, 5, 6, 7 of pair noise, then 3 of the dark level.
  *
- *   tip_job(input, 46, &place, &sites, &p, &q, &r, &dark), of a 2 by 2 window with every site surveyed, full scale
- *   1023, black level 64 and the frames 100 101 102 103 and 101 101 102 104,
+ * The program job prints number and place of a refusal, 'refused 20 at 10', and of a 6 also over,
+ * 'refused 6 at 3 count 9'.
+ *
+ *   tip_job(input, 46, &place, &over, &sites, &p, &q, &r, &dark), of a 2 by 2 window with every site surveyed, full
+ *   scale 1023, black level 64 and the frames 100 101 102 103 and 101 101 102 104,
  *                                                        gives 0, and 4, 4 / 32, 90 / 256, 150 / 4
+ *   With full scale 101 it gives 6, place is 2 and over 4.
  */
 uint64_t tip_job(const uint8_t *input, size_t input_len,
-                 uint64_t *place, uint64_t *sites, uint64_t *p, uint64_t *q, uint64_t *r, int64_t *dark);
+                 uint64_t *place, uint64_t *over,
+                 uint64_t *sites, uint64_t *p, uint64_t *q, uint64_t *r, int64_t *dark);
 
 #ifdef __cplusplus
 }
