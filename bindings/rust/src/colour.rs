@@ -38,7 +38,7 @@ pub struct ColourRatios {
 ///
 /// In the order tested: 1; 2; 3 (`black_level` above full scale); 4 (`mask` or `frame`); 5; 6; 9 (width below 64 or
 /// height below 48, even with no surveyed site); 7 (no surveyed site in some plane's centre); 10 (T(Gr) not above 0).
-/// 5 and 6 look at the whole window.
+/// 5 and 6 look at the whole window, so `over` counts outside the centres too.
 ///
 /// ```
 /// use tippovrain::{colour_ratios, BayerOrder, Window};

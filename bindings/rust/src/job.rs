@@ -26,13 +26,13 @@ pub struct JobFigures {
 /// First met in the stream. In a field: 21 (another tag than the next due), 20 (the input ends inside the field or
 /// before it), 22 (wrong length); the tag is judged first, then the length, then whether the body is all there. Their
 /// place is the offset of the field's first byte. After field 2: 1, then 24 (a side above 64). After field 0: 23 (bytes
-/// follow; the place is the first of them), then the library's refusals: 2, 5, 6, 7 of pair noise, then 3 of the dark
-/// level.
+/// follow; the place is the first of them), then the library's refusals: 2, 5, 6 (`over` counts both frames), 7 of pair
+/// noise, then 3 of the dark level.
 ///
 /// ```
 /// use tippovrain::{job, Refusal};
 ///
-/// let stream = [
+/// let mut stream = [
 ///     1, 0, 2, 0, 2, // width 2
 ///     2, 0, 2, 0, 2, // height 2
 ///     3, 0, 2, 3, 255, // full scale 1023
@@ -49,7 +49,11 @@ pub struct JobFigures {
 /// assert_eq!(answer.dark.to_string(), "150/4");
 ///
 /// // cut inside field 3, which begins at byte 10
-/// assert_eq!(job(&stream[..12]), Err(Refusal { number: 20, place: 10 }));
+/// assert_eq!(job(&stream[..12]), Err(Refusal { number: 20, place: 10, over: 0 }));
+///
+/// // full scale 101: two samples of each frame are above it, the first of them at site 2
+/// stream[13..15].copy_from_slice(&[0, 101]);
+/// assert_eq!(job(&stream), Err(Refusal { number: 6, place: 2, over: 4 }));
 /// ```
 pub fn job(input: &[u8]) -> Result<JobFigures, Refusal> {
     let (sites, p, q, r, dark) = native::tip_job(input)?;

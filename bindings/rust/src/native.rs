@@ -2,13 +2,21 @@
 
 use crate::Refusal;
 
+/// What a refusal tells beside its number. `over` stays 0 where the C function does not write it.
+#[derive(Default)]
+struct Told {
+    place: u64,
+    over: u64,
+}
+
 /// A line declares a C function of include/tippovrain.h: the numbers it takes, the buffers it reads, those it writes,
-/// and the numbers it answers with beside the refusal's number and place. C's own order is the same.
+/// what it tells of a refusal, and the numbers it answers with. C's own order is the same.
 macro_rules! calls {
     ($(
         $call:ident($($number:ident: $number_type:ty),*)
             reads($($read:ident: $read_type:ty),*)
             writes($($written:ident: $written_type:ty),*)
+            tells($($told:ident),*)
             answers($($answer:ident: $answer_type:ty),*);
     )*) => {$(
         // as many as the C function has
@@ -23,11 +31,11 @@ macro_rules! calls {
                     $($number: $number_type,)*
                     $($read: *const $read_type, _: usize,)*
                     $($written: *mut $written_type, _: usize,)*
-                    place: *mut u64,
+                    $($told: *mut u64,)*
                     $($answer: *mut $answer_type,)*
                 ) -> u64;
             }
-            let mut place = 0;
+            let mut told = Told::default();
             $(let mut $answer = <$answer_type>::default();)*
             // SAFETY: each buffer goes with its own length, aligned and not NULL even where it is empty; what is
             // written is borrowed by `&mut`, so it overlaps nothing; any value of a number's type may be handed in.
@@ -36,14 +44,14 @@ macro_rules! calls {
                     $($number,)*
                     $($read.as_ptr(), $read.len(),)*
                     $($written.as_mut_ptr(), $written.len(),)*
-                    &mut place,
+                    $(&mut told.$told,)*
                     $(&mut $answer,)*
                 )
             };
             match number {
                 0 => Ok(($($answer,)*)),
                 // a place is a site or an offset in a stream, both far below usize::MAX
-                _ => Err(Refusal { number, place: place as usize }),
+                _ => Err(Refusal { number, place: told.place as usize, over: told.over }),
             }
         }
     )*};
@@ -53,53 +61,66 @@ calls! {
     tip_unpack_raw10(width: usize, height: usize)
         reads(bytes: u8)
         writes(out: u16)
+        tells(place)
         answers();
     tip_pair_figures(width: usize, height: usize, full_scale: u64)
         reads(mask: u8, first: u16, second: u16)
         writes()
+        tells(place, over)
         answers(n: u64, p: u64, q: u64, r: u64, variance: f64, noise: f64);
     tip_dark_level(width: usize, height: usize, full_scale: u64, black_level: u64)
         reads(mask: u8, frame: u16)
         writes()
+        tells(place, over)
         answers(numerator: i64, denominator: u64);
     tip_stack_add(width: usize, height: usize, full_scale: u64, frames: u64)
         reads(mask: u8, frame: u16)
         writes(sums: u32, squares: u32)
+        tells(place, over)
         answers(count: u64);
     tip_stack_variance(width: usize, height: usize, full_scale: u64, frames: u64)
         reads(mask: u8, sums: u32, squares: u32)
         writes()
+        tells(place)
         answers(numerator: u64, denominator: u64, variance: f64);
     tip_pattern_vertical(width: usize, height: usize, full_scale: u64, frames: u64)
         reads(mask: u8, sums: u32)
         writes()
+        tells(place)
         answers(level_numerator: u64, level_denominator: u64, max_numerator: u64, max_denominator: u64);
     tip_pattern_horizontal(width: usize, height: usize, full_scale: u64, frames: u64)
         reads(mask: u8, sums: u32)
         writes()
+        tells(place)
         answers(level_numerator: u64, level_denominator: u64, max_numerator: u64, max_denominator: u64);
     tip_find_defects(width: usize, height: usize, full_scale: u64, threshold: u64)
         reads(mask: u8, frame: u16)
         writes(out_mask: u8)
+        tells(place, over)
         answers(count: u64);
     tip_repair(width: usize, height: usize, full_scale: u64)
         reads(mask: u8, frame: u16)
         writes(out_frame: u16, out_mask: u8)
+        tells(place, over)
         answers(filled: u64);
     tip_defective_rows(width: usize, height: usize, full_scale: u64)
         reads(mask: u8, frame: u16)
         writes(marks: u8)
+        tells(place, over)
         answers();
     tip_defective_columns(width: usize, height: usize, full_scale: u64)
         reads(mask: u8, frame: u16)
         writes(marks: u8)
+        tells(place, over)
         answers();
     tip_colour_ratios(width: usize, height: usize, full_scale: u64, black_level: u64, bayer_order: u64)
         reads(mask: u8, frame: u16)
         writes()
+        tells(place, over)
         answers(r_numerator: i64, r_denominator: u64, b_numerator: i64, b_denominator: u64, gb_numerator: i64, gb_denominator: u64);
     tip_job()
         reads(input: u8)
         writes()
+        tells(place, over)
         answers(sites: u64, p: u64, q: u64, r: u64, dark: i64);
 }

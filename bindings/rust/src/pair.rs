@@ -37,8 +37,8 @@ pub struct PairFigures {
 ///
 /// # Errors
 ///
-/// In the order tested: 1; 2; 4 (`mask`, `first` or `second`); 5; 6 (all sites of `first`, then all of `second`);
-/// 7 (fewer than 2 surveyed sites).
+/// In the order tested: 1; 2; 4 (`mask`, `first` or `second`); 5; 6 (all sites of `first`, then all of `second`; `over`
+/// counts both); 7 (fewer than 2 surveyed sites).
 ///
 /// ```
 /// use tippovrain::{pair_figures, Fraction, Refusal, Window};
@@ -61,10 +61,10 @@ pub struct PairFigures {
 /// // which of the frames is the first makes no difference
 /// assert_eq!(pair_figures(window, &[0; 4], &second, &first)?, pair);
 ///
-/// // the second frame's sample at site 3 is above this full scale
-/// window.full_scale = 103;
+/// // two samples of each frame are above this full scale, the first of them at site 2
+/// window.full_scale = 101;
 /// let refusal = pair_figures(window, &[0; 4], &first, &second).unwrap_err();
-/// assert_eq!(refusal, Refusal { number: 6, place: 3 });
+/// assert_eq!(refusal, Refusal { number: 6, place: 2, over: 4 });
 /// # Ok(())
 /// # }
 /// ```

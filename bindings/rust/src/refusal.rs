@@ -12,7 +12,7 @@ use std::fmt;
 /// | 3 | another parameter is out of range: a black level above full scale, a threshold above 4095 grey levels, a frame count above 100, or 0 in the stack variance and pattern noise |
 /// | 4 | a buffer's length is not exactly the one needed |
 /// | 5 | a mask code is above 3 |
-/// | 6 | a surveyed sample is above full scale |
+/// | 6 | a surveyed sample is above full scale: `over` says how many are |
 /// | 7 | too few: fewer than 2 surveyed sites (pair), none (dark level, stack variance, a plane's centre in colour ratios), or fewer than 2 frames (stack variance) |
 /// | 8 | pattern noise, and some mask code is not 0 |
 /// | 9 | the window is too small for the test |
@@ -38,9 +38,9 @@ use std::fmt;
 /// use tippovrain::{dark_level, Window};
 ///
 /// let window = Window { width: 2, height: 2, full_scale: 1023 };
-/// let refusal = dark_level(window, 64, &[0; 4], &[60, 64, 1024, 64]).unwrap_err();
-/// assert_eq!((refusal.number, refusal.place), (6, 2));
-/// assert!(refusal.to_string().starts_with("refused 6 at site 2: a surveyed sample is above full scale"));
+/// let refusal = dark_level(window, 64, &[0; 4], &[60, 1024, 64, 1500]).unwrap_err();
+/// assert_eq!((refusal.number, refusal.place, refusal.over), (6, 1, 2));
+/// assert!(refusal.to_string().starts_with("refused 6 at site 1: 2 samples above full scale"));
 /// ```
 #[derive(Debug, Clone, Copy, PartialEq, Eq, Hash)]
 pub struct Refusal {
@@ -49,6 +49,10 @@ pub struct Refusal {
     /// Of 5 and 6 the first offending site, numbered from 0 in row order, in its own frame; of 20 to 23 an offset in
     /// the stream, in bytes from 0; of any other 0.
     pub place: usize,
+    /// Of 6 how many surveyed samples are above full scale, in all frames of the call, wherever the place is: 1 to
+    /// `width * height`, and of two frames up to twice that; of any other 0. One hot site gives 1, or with two frames
+    /// 2; a wrong exposure or a wrong full scale gives many.
+    pub over: u64,
 }
 
 impl Refusal {
@@ -57,7 +61,7 @@ impl Refusal {
     /// ```
     /// use tippovrain::Refusal;
     ///
-    /// let refusal = Refusal { number: 2, place: 0 };
+    /// let refusal = Refusal { number: 2, place: 0, over: 0 };
     /// assert_eq!(refusal.meaning(), "the full scale is not in 1 to 4095 grey levels");
     /// ```
     pub fn meaning(&self) -> &'static str {
@@ -112,7 +116,12 @@ impl fmt::Display for Refusal {
             20..=23 => write!(f, " at byte {}", self.place)?,
             _ => {}
         }
-        write!(f, ": {}", self.meaning())
+        match (self.number, self.over) {
+            (6, 1) => write!(f, ": 1 sample above full scale")?,
+            (6, over) => write!(f, ": {over} samples above full scale")?,
+            _ => return write!(f, ": {}", self.meaning()),
+        }
+        write!(f, ", counted at all surveyed sites")
     }
 }
 

@@ -1,6 +1,7 @@
 //! Each call accepted and refused, and what it leaves of the buffers lent to it. What the answers mean is tested in
 //! tests/second; here, that each Rust function is the C function that it names.
 
+use std::fmt::Debug;
 use tippovrain::*;
 
 const SMALL: Window = window(2, 2);
@@ -18,7 +19,44 @@ const FIRST: [u16; 4] = [100, 101, 102, 103];
 const SECOND: [u16; 4] = [101, 101, 102, 104];
 
 fn refused<T>(number: u64, place: usize) -> Result<T, Refusal> {
-    Err(Refusal { number, place })
+    Err(Refusal {
+        number,
+        place,
+        over: 0,
+    })
+}
+
+/// Refusal 6, with how many samples are above full scale.
+fn above<T>(place: usize, over: u64) -> Result<T, Refusal> {
+    Err(Refusal {
+        number: 6,
+        place,
+        over,
+    })
+}
+
+/// How a call on so many sites counts what is above full scale in one frame; any other is in range.
+fn counts_over<T: Debug + PartialEq>(
+    sites: usize,
+    call: impl Fn(&[u8], &[u16]) -> Result<T, Refusal>,
+) {
+    let (mut mask, mut frame) = (vec![SURVEYED; sites], vec![100; sites]);
+    frame[sites - 1] = 1024;
+    assert_eq!(call(&mask, &frame), above(sites - 1, 1));
+    // full scale itself is not above it
+    (frame[0], frame[1]) = (1023, 1024);
+    assert_eq!(call(&mask, &frame), above(1, 2));
+    frame.fill(1024);
+    assert_eq!(call(&mask, &frame), above(0, sites as u64));
+    // what is not surveyed holds more, and does not count
+    for (site, code) in [GAP, DEFECT, FILLED].into_iter().enumerate() {
+        (mask[site], frame[site]) = (code, 65535);
+    }
+    assert_eq!(call(&mask, &frame), above(3, sites as u64 - 3));
+    // codes are not counted, nor samples beside them
+    mask.fill(SURVEYED);
+    mask[sites - 1] = 4;
+    assert_eq!(call(&mask, &frame), refused(5, sites - 1));
 }
 
 fn signed(numerator: i64, denominator: u64) -> SignedFraction {
@@ -75,22 +113,46 @@ fn pair() {
     );
 
     // each with all right that is tested before it, and something wrong that is tested after it
-    let refuse = |window, mask: &[u8], second: &[u16], number, place| {
-        assert_eq!(
-            pair_figures(window, mask, &FIRST, second),
-            refused(number, place)
-        );
+    let refuse = |window, mask: &[u8], second: &[u16], refusal| {
+        assert_eq!(pair_figures(window, mask, &FIRST, second), refusal);
     };
     let dull = Window {
         full_scale: 0,
         ..SMALL
     };
-    refuse(Window { width: 3, ..dull }, &[], &[], 1, 0);
-    refuse(dull, &[], &[], 2, 0);
-    refuse(SMALL, &[0, 4, 0, 0], &SECOND[..3], 4, 0);
-    refuse(SMALL, &[0, 4, 0, 0], &[1024; 4], 5, 1);
-    refuse(SMALL, &[0, 1, 1, 1], &[1024; 4], 6, 0);
-    refuse(SMALL, &[0, 1, 1, 1], &[0, 65535, 65535, 65535], 7, 0);
+    refuse(Window { width: 3, ..dull }, &[], &[], refused(1, 0));
+    refuse(dull, &[], &[], refused(2, 0));
+    refuse(SMALL, &[0, 4, 0, 0], &SECOND[..3], refused(4, 0));
+    refuse(SMALL, &[0, 4, 0, 0], &[1024; 4], refused(5, 1));
+    refuse(SMALL, &[0, 1, 1, 1], &[1024; 4], above(0, 1));
+    refuse(
+        SMALL,
+        &[0, 1, 1, 1],
+        &[0, 65535, 65535, 65535],
+        refused(7, 0),
+    );
+}
+
+/// Both frames are counted, whichever has the place.
+#[test]
+fn pair_over() {
+    counts_over(4, |mask, frame| pair_figures(SMALL, mask, frame, &FIRST));
+    counts_over(4, |mask, frame| pair_figures(SMALL, mask, &FIRST, frame));
+    let dim = Window {
+        full_scale: 101,
+        ..SMALL
+    };
+    assert_eq!(pair_figures(dim, &[0; 4], &FIRST, &SECOND), above(2, 4));
+    assert_eq!(
+        pair_figures(dim, &[0, 0, GAP, 0], &FIRST, &SECOND),
+        above(3, 2)
+    );
+    assert_eq!(
+        pair_figures(SMALL, &[0; 4], &[0, 0, 0, 1024], &[1024, 1024, 0, 0]),
+        above(3, 3)
+    );
+    // one buffer lent twice is two frames
+    assert_eq!(pair_figures(dim, &[0; 4], &FIRST, &FIRST), above(2, 4));
 }
 
 #[test]
@@ -106,13 +168,10 @@ fn dark() {
     assert_eq!(dark_level(SMALL, 1024, &[0; 4], &[1023; 4]), refused(3, 0));
     assert_eq!(dark_level(SMALL, 64, &[], &[]), refused(4, 0));
     assert_eq!(
-        dark_level(SMALL, 64, &[0; 4], &[60, 64, 64, 1024]),
-        refused(6, 3)
-    );
-    assert_eq!(
         dark_level(SMALL, 64, &[GAP, DEFECT, FILLED, GAP], &[1024; 4]),
         refused(7, 0)
     );
+    counts_over(4, |mask, frame| dark_level(SMALL, 64, mask, frame));
 }
 
 #[test]
@@ -143,7 +202,7 @@ fn stack() {
     };
     assert_eq!(add(101, &frame, 4), refused(3, 0));
     assert_eq!(add(1, &frame, 3), refused(4, 0));
-    assert_eq!(add(1, &[100, 101, 1024, 0], 4), refused(6, 2));
+    assert_eq!(add(1, &[100, 1024, 1024, 65535], 4), above(1, 2));
     assert_eq!(add(0, &frame, 4), refused(11, 0));
     assert_eq!(add(100, &frame, 4), refused(12, 0));
     assert_eq!(
@@ -176,6 +235,9 @@ fn stack() {
         stack_variance(SMALL, 2, &mask, &sums, &squares),
         refused(11, 0)
     );
+    counts_over(4, |mask, frame| {
+        stack_add(SMALL, 0, mask, frame, &mut [0; 4], &mut [0; 4])
+    });
 }
 
 type Pattern = fn(Window, u64, &[u8], &[u32]) -> Result<PatternNoise, Refusal>;
@@ -263,7 +325,7 @@ fn defects_and_repair() {
     let high = [1024; 16];
     assert_eq!(
         repair(window, &found, &high, &mut samples, &mut codes),
-        refused(6, 0)
+        above(0, 15)
     );
     assert_eq!(
         repair(window, &found, &frame, &mut samples[1..], &mut codes),
@@ -280,6 +342,12 @@ fn defects_and_repair() {
     );
     one[5] = FILLED;
     assert_eq!((samples, codes), ([64; 16], one));
+    counts_over(16, |mask, frame| {
+        find_defects(window, 28, mask, frame, &mut [9; 16])
+    });
+    counts_over(16, |mask, frame| {
+        repair(window, mask, frame, &mut [9; 16], &mut [9; 16])
+    });
 }
 
 type Lines = fn(Window, &[u8], &[u16], &mut [u8]) -> Result<(), Refusal>;
@@ -300,13 +368,14 @@ fn lines(call: Lines, window: Window, site: usize, mark: usize) {
     );
     assert_eq!(
         call(window, &[0; 36], &[1024; 36], &mut marks),
-        refused(6, 0)
+        above(0, 36)
     );
     assert_eq!(marks, [9; 36]);
     assert_eq!(call(window, &[0; 36], &frame, &mut marks), Ok(()));
     let mut one = [0; 36];
     one[mark] = 1;
     assert_eq!(marks, one);
+    counts_over(36, |mask, frame| call(window, mask, frame, &mut [9; 36]));
 }
 
 #[test]
@@ -336,11 +405,11 @@ fn colour() {
         (BayerOrder::B, 4, 8, 1, 2),
         (BayerOrder::Gb, 8, 4, 2, 1),
     ] {
-        let over = |x: i64| signed(x * once, gr * once as u64);
+        let to_gr = |x: i64| signed(x * once, gr * once as u64);
         let ratios = ColourRatios {
-            r: over(r),
-            b: over(b),
-            gb: over(gb),
+            r: to_gr(r),
+            b: to_gr(b),
+            gb: to_gr(gb),
         };
         assert_eq!(colour_ratios(window, 64, order, &mask, &frame), Ok(ratios));
     }
@@ -364,6 +433,13 @@ fn colour() {
         colour_ratios(SMALL, 64, BayerOrder::R, &[GAP; 4], &FIRST),
         refused(9, 0)
     );
+    // outside the centres too, and where the window would get 9
+    let tall = self::window(64, 52);
+    for (window, sites) in [(tall, 64 * 52), (SMALL, 4)] {
+        counts_over(sites, |mask, frame| {
+            colour_ratios(window, 64, BayerOrder::R, mask, frame)
+        });
+    }
 }
 
 #[test]
@@ -389,6 +465,19 @@ fn jobs() {
     assert_eq!(with(4, 3), refused(1, 0));
     assert_eq!(with(4, 66), refused(24, 0));
     assert_eq!(with(18, 4), refused(3, 0));
+
+    // full scale 101 and a code at site 3, where both frames are above it, as at site 2
+    let dim = |code: u8| {
+        let mut changed = stream.to_vec();
+        changed[13..15].copy_from_slice(&[0, 101]);
+        changed[26] = code;
+        job(&changed)
+    };
+    assert_eq!(dim(SURVEYED), above(2, 4));
+    for code in [GAP, DEFECT, FILLED] {
+        assert_eq!(dim(code), above(2, 2));
+    }
+    assert_eq!(dim(4), refused(5, 3));
 }
 
 #[test]
@@ -396,24 +485,30 @@ fn refusals_in_words() {
     let tabled = [
         1, 2, 3, 4, 5, 6, 7, 8, 9, 10, 11, 12, 14, 20, 21, 22, 23, 24,
     ];
-    let unknown = Refusal {
-        number: 0,
-        place: 0,
-    }
-    .meaning();
+    let told = |number, over| Refusal {
+        number,
+        place: 3,
+        over,
+    };
+    let unknown = told(0, 0).meaning();
     let mut meanings: Vec<_> = tabled
         .iter()
-        .map(|&number| Refusal { number, place: 3 }.meaning())
+        .map(|&number| told(number, 0).meaning())
         .collect();
     assert!(!meanings.contains(&unknown));
     meanings.sort();
     meanings.dedup();
     assert_eq!(meanings.len(), tabled.len());
 
-    let begins = |number, text| Refusal { number, place: 3 }.to_string().starts_with(text);
-    assert!(begins(6, "refused 6 at site 3: a surveyed sample"));
-    assert!(begins(22, "refused 22 at byte 3: the length of the field that begins here"));
-    assert!(begins(12, "refused 12: the stack is full"));
+    for (number, over, begins) in [
+        (5, 0, "refused 5 at site 3: a mask code"),
+        (6, 1, "refused 6 at site 3: 1 sample above full scale,"),
+        (6, 9, "refused 6 at site 3: 9 samples above full scale,"),
+        (22, 0, "refused 22 at byte 3: the length of the field"),
+        (12, 0, "refused 12: the stack is full"),
+    ] {
+        assert!(told(number, over).to_string().starts_with(begins));
+    }
     // an answer can go where any error goes
     let refusal = pair_figures(SMALL, &[], &[], &[]).unwrap_err();
     let error: Box<dyn std::error::Error> = Box::new(refusal);
