@@ -42,7 +42,7 @@ fn figures() -> Result<(), Refusal> {
     );
     println!("dark level: {dark} grey levels above black");
 
-    // Were the gap surveyed, its sample would count, and is above full scale.
+    // Were the gap surveyed, its sample would count, and is above full scale in both frames.
     mask[5] = SURVEYED;
     match pair_figures(window, &mask, &first, &second) {
         Ok(pair) => println!("without the gap: {:.6} grey levels", pair.noise),
