@@ -141,6 +141,10 @@ static void unpack_raw10(void)
 static const uint8_t all_surveyed[4] = {0, 0, 0, 0}, one_surveyed[4] = {1, 2, 3, 0}, bad_code[4] = {0, 0, 4, 0};
 static const uint16_t k1_first[4] = {100, 101, 102, 103}, k1_second[4] = {101, 101, 102, 104};
 
+/* Above full scale 1023 at two surveyed sites, the first at 2, and the first at 1; all that is not surveyed holds more. */
+static const uint8_t gap_beside[4] = {0, 1, 0, 0}, defects_beside[4] = {2, 0, 3, 0};
+static const uint16_t above_gap[4] = {1023, 65535, 1024, 4095}, above_defects[4] = {65535, 1024, 65535, 1025};
+
 static const uint8_t great_surveyed[128 * 128];
 
 /* The bits of a float: -0.0 and a NaN are told apart from what they compare equal to. */
@@ -159,22 +163,22 @@ struct pair_figures {
 };
 
 static int has_figures(size_t side, const uint8_t *mask, uint64_t full_scale, const uint16_t *first, const uint16_t *second,
-                       uint64_t number, uint64_t place, const struct pair_figures *figures)
+                       uint64_t number, uint64_t place, uint64_t over, const struct pair_figures *figures)
 {
-    uint64_t at = UNWRITTEN;
+    uint64_t at = UNWRITTEN, above = UNWRITTEN;
     struct pair_figures got = {UNWRITTEN, UNWRITTEN, UNWRITTEN, UNWRITTEN, UNWRITTEN, UNWRITTEN};
     size_t sites = side * side;
     return tip_pair_figures(side, side, full_scale, mask, sites, first, sites, second, sites,
-                            &at, &got.n, &got.p, &got.q, &got.r, &got.variance, &got.noise) == number
-        && at == place && got.n == figures->n && got.p == figures->p && got.q == figures->q && got.r == figures->r
+                            &at, &above, &got.n, &got.p, &got.q, &got.r, &got.variance, &got.noise) == number
+        && at == place && above == over && got.n == figures->n && got.p == figures->p && got.q == figures->q && got.r == figures->r
         && bits(got.variance) == bits(figures->variance) && bits(got.noise) == bits(figures->noise);
 }
 
 static void pair(void)
 {
-    static const uint16_t drifted[4] = {107, 108, 109, 110};
+    static const uint16_t drifted[4] = {107, 108, 109, 110}, last_above[4] = {0, 0, 0, 1024}, first_two_above[4] = {1024, 1024, 0, 0};
     /* 0 and 4095 in turn, one against the other: p is (16384 * 4095)^2, the greatest of all windows. */
-    static uint16_t low_first[128 * 128], high_first[128 * 128];
+    static uint16_t low_first[128 * 128], high_first[128 * 128], all_high[128 * 128];
     static const struct pair_figures none, k1 = {4, 4, 32, 90, 0.125, 90.0 / 256.0}, equal = {4, 0, 32, 0, 0.0, 0.0},
         greatest = {16384, 4501400872550400, 536870912, 3036259044, 8384512.5, 3036259044.0 / (64.0 * 16384.0)};
     const char *call = "tip_pair_figures";
@@ -182,49 +186,63 @@ static void pair(void)
     for (size_t i = 0; i < COUNT(low_first); i++) {
         low_first[i] = i % 2 ? 4095 : 0;
         high_first[i] = i % 2 ? 0 : 4095;
+        all_high[i] = 4095;
     }
-    check(call, "K1", has_figures(2, all_surveyed, 1023, k1_first, k1_second, 0, 0, &k1));
-    check(call, "K2", has_figures(2, all_surveyed, 1023, k1_first, drifted, 0, 0, &equal));
-    check(call, "the greatest p", has_figures(128, great_surveyed, 4095, low_first, high_first, 0, 0, &greatest));
-    check(call, "one frame twice", has_figures(2, all_surveyed, 1023, k1_first, k1_first, 0, 0, &equal));
-    check(call, "refused 2", has_figures(2, all_surveyed, 4096, k1_first, k1_second, 2, 0, &none));
-    check(call, "refused 5 at 2", has_figures(2, bad_code, 1023, k1_first, k1_second, 5, 2, &none));
-    check(call, "refused 6 at 3", has_figures(2, all_surveyed, 103, k1_first, k1_second, 6, 3, &none));
-    check(call, "refused 7", has_figures(2, one_surveyed, 1023, k1_first, k1_second, 7, 0, &none));
+    check(call, "K1", has_figures(2, all_surveyed, 1023, k1_first, k1_second, 0, 0, 0, &k1));
+    check(call, "K2", has_figures(2, all_surveyed, 1023, k1_first, drifted, 0, 0, 0, &equal));
+    check(call, "the greatest p", has_figures(128, great_surveyed, 4095, low_first, high_first, 0, 0, 0, &greatest));
+    check(call, "one frame twice", has_figures(2, all_surveyed, 1023, k1_first, k1_first, 0, 0, 0, &equal));
+    check(call, "refused 2", has_figures(2, all_surveyed, 4096, k1_first, k1_second, 2, 0, 0, &none));
+    check(call, "refused 5 at 2", has_figures(2, bad_code, 1023, k1_first, k1_second, 5, 2, 0, &none));
+    check(call, "refused 5 at 2, samples above full scale", has_figures(2, bad_code, 101, k1_first, k1_second, 5, 2, 0, &none));
+    check(call, "refused 6 at 3, 1 over, of the second frame", has_figures(2, all_surveyed, 103, k1_first, k1_second, 6, 3, 1, &none));
+    check(call, "refused 6 at 3, 1 over, of the first frame", has_figures(2, all_surveyed, 103, k1_second, k1_first, 6, 3, 1, &none));
+    check(call, "refused 6 at 2, 4 over, of both", has_figures(2, all_surveyed, 101, k1_first, k1_second, 6, 2, 4, &none));
+    check(call, "refused 6 at 3, 3 over, more of the second", has_figures(2, all_surveyed, 1023, last_above, first_two_above, 6, 3, 3, &none));
+    check(call, "refused 6 at 2, 4 over, beside a gap", has_figures(2, gap_beside, 1023, above_gap, above_gap, 6, 2, 4, &none));
+    check(call, "refused 6 at 1, 2 over, beside a defect and a filled site",
+          has_figures(2, defects_beside, 1023, k1_first, above_defects, 6, 1, 2, &none));
+    check(call, "refused 6 at 0, all over", has_figures(128, great_surveyed, 4094, all_high, all_high, 6, 0, 32768, &none));
+    check(call, "refused 7", has_figures(2, one_surveyed, 4095, above_gap, above_gap, 7, 0, 0, &none));
 }
 
 /* ---- tip_dark_level ---- */
 
 static int has_dark_level(uint64_t black_level, const uint8_t mask[4], const uint16_t frame[4],
-                          uint64_t number, uint64_t place, int64_t numerator, uint64_t denominator)
+                          uint64_t number, uint64_t place, uint64_t over, int64_t numerator, uint64_t denominator)
 {
-    uint64_t at = UNWRITTEN, got_denominator = UNWRITTEN;
+    uint64_t at = UNWRITTEN, above = UNWRITTEN, got_denominator = UNWRITTEN;
     int64_t got_numerator = UNWRITTEN;
-    return tip_dark_level(2, 2, 1023, black_level, mask, 4, frame, 4, &at, &got_numerator, &got_denominator) == number
-        && at == place && got_numerator == numerator && got_denominator == denominator;
+    return tip_dark_level(2, 2, 1023, black_level, mask, 4, frame, 4, &at, &above, &got_numerator, &got_denominator) == number
+        && at == place && above == over && got_numerator == numerator && got_denominator == denominator;
 }
 
 static void dark_level(void)
 {
-    static const uint16_t k5[4] = {60, 64, 64, 64}, over[4] = {60, 1024, 64, 64};
+    static const uint16_t k5[4] = {60, 64, 64, 64}, one_above[4] = {60, 1024, 64, 64}, three_above[4] = {60, 1024, 1024, 1024};
     static const uint8_t none_surveyed[4] = {1, 2, 3, 1};
 
-    check("tip_dark_level", "K5", has_dark_level(64, all_surveyed, k5, 0, 0, -4, 4));
-    check("tip_dark_level", "K1's first frame", has_dark_level(64, all_surveyed, k1_first, 0, 0, 150, 4));
-    check("tip_dark_level", "refused 3", has_dark_level(1024, all_surveyed, k5, 3, 0, 0, 0));
-    check("tip_dark_level", "refused 6 at 1", has_dark_level(64, all_surveyed, over, 6, 1, 0, 0));
-    check("tip_dark_level", "refused 7", has_dark_level(64, none_surveyed, k5, 7, 0, 0, 0));
+    check("tip_dark_level", "K5", has_dark_level(64, all_surveyed, k5, 0, 0, 0, -4, 4));
+    check("tip_dark_level", "K1's first frame", has_dark_level(64, all_surveyed, k1_first, 0, 0, 0, 150, 4));
+    check("tip_dark_level", "refused 3", has_dark_level(1024, all_surveyed, three_above, 3, 0, 0, 0, 0));
+    check("tip_dark_level", "refused 5 at 2", has_dark_level(64, bad_code, three_above, 5, 2, 0, 0, 0));
+    check("tip_dark_level", "refused 6 at 1, 1 over", has_dark_level(64, all_surveyed, one_above, 6, 1, 1, 0, 0));
+    check("tip_dark_level", "refused 6 at 1, 3 over", has_dark_level(64, all_surveyed, three_above, 6, 1, 3, 0, 0));
+    check("tip_dark_level", "refused 6 at 2, 2 over, beside a gap", has_dark_level(64, gap_beside, above_gap, 6, 2, 2, 0, 0));
+    check("tip_dark_level", "refused 6 at 1, 2 over, beside a defect and a filled site",
+          has_dark_level(64, defects_beside, above_defects, 6, 1, 2, 0, 0));
+    check("tip_dark_level", "refused 7", has_dark_level(64, none_surveyed, above_defects, 7, 0, 0, 0, 0));
 }
 
 /* ---- tip_stack_add, tip_stack_variance ---- */
 
 static uint32_t stack_sums[4], stack_squares[4];
 
-static int adds(uint64_t frames, const uint8_t mask[4], const uint16_t frame[4], uint64_t number, uint64_t count)
+static int adds(uint64_t frames, const uint8_t mask[4], const uint16_t frame[4], uint64_t number, uint64_t place, uint64_t over, uint64_t count)
 {
-    uint64_t at = UNWRITTEN, got = UNWRITTEN;
-    return tip_stack_add(2, 2, 1023, frames, mask, 4, frame, 4, stack_sums, 4, stack_squares, 4, &at, &got) == number
-        && at == 0 && got == count;
+    uint64_t at = UNWRITTEN, above = UNWRITTEN, got = UNWRITTEN;
+    return tip_stack_add(2, 2, 1023, frames, mask, 4, frame, 4, stack_sums, 4, stack_squares, 4, &at, &above, &got) == number
+        && at == place && above == over && got == count;
 }
 
 static int stack_holds(const uint32_t sums[4], const uint32_t squares[4])
@@ -255,11 +273,17 @@ static void stack(void)
     static uint32_t great_squares[128 * 128];
 
     for (size_t i = 0; i < COUNT(great_squares); i++) great_squares[i] = 100 * 4095 * 4095;
-    check("tip_stack_add", "the first frame", adds(0, all_surveyed, k1_first, 0, 1) && stack_holds(first_sums, first_squares));
-    check("tip_stack_add", "the second", adds(1, all_surveyed, k1_second, 0, 2) && stack_holds(both_sums, both_squares));
-    check("tip_stack_add", "refused 3 at 101", adds(101, all_surveyed, k1_first, 3, 0) && stack_holds(both_sums, both_squares));
-    check("tip_stack_add", "refused 11 with no frame in", adds(0, all_surveyed, k1_first, 11, 0) && stack_holds(both_sums, both_squares));
-    check("tip_stack_add", "refused 12 at 100", adds(100, all_surveyed, k1_first, 12, 0) && stack_holds(both_sums, both_squares));
+    check("tip_stack_add", "the first frame", adds(0, all_surveyed, k1_first, 0, 0, 0, 1) && stack_holds(first_sums, first_squares));
+    check("tip_stack_add", "the second", adds(1, all_surveyed, k1_second, 0, 0, 0, 2) && stack_holds(both_sums, both_squares));
+    check("tip_stack_add", "refused 3 at 101", adds(101, all_surveyed, above_gap, 3, 0, 0, 0) && stack_holds(both_sums, both_squares));
+    check("tip_stack_add", "refused 5 at 2", adds(2, bad_code, above_gap, 5, 2, 0, 0) && stack_holds(both_sums, both_squares));
+    check("tip_stack_add", "refused 6 at 1, 3 over", adds(2, all_surveyed, above_gap, 6, 1, 3, 0) && stack_holds(both_sums, both_squares));
+    check("tip_stack_add", "refused 6 at 2, 2 over, beside a gap",
+          adds(2, gap_beside, above_gap, 6, 2, 2, 0) && stack_holds(both_sums, both_squares));
+    check("tip_stack_add", "refused 6 at 1, 2 over, beside a defect and a filled site",
+          adds(2, defects_beside, above_defects, 6, 1, 2, 0) && stack_holds(both_sums, both_squares));
+    check("tip_stack_add", "refused 11 with no frame in", adds(0, all_surveyed, k1_first, 11, 0, 0, 0) && stack_holds(both_sums, both_squares));
+    check("tip_stack_add", "refused 12 at 100", adds(100, all_surveyed, k1_first, 12, 0, 0, 0) && stack_holds(both_sums, both_squares));
     check("tip_stack_variance", "two frames", has_stack_variance(2, 1023, 2, all_surveyed, stack_sums, stack_squares, 0, 2, 16, 0.125));
     check("tip_stack_variance", "the greatest numerator",
           has_stack_variance(128, 4095, 100, great_surveyed, no_sums, great_squares, 0, 2747437056000000, 163840000, 16769025.0));
@@ -332,11 +356,40 @@ static int finds(uint64_t threshold, uint16_t sample, uint64_t number, uint64_t 
     static const uint8_t mask[16], kept[16] = {9, 9, 9, 9, 9, 9, 9, 9, 9, 9, 9, 9, 9, 9, 9, 9};
     uint8_t out[16];
     uint16_t frame[16];
-    uint64_t at = UNWRITTEN, got = UNWRITTEN;
+    uint64_t at = UNWRITTEN, above = UNWRITTEN, got = UNWRITTEN;
     lone_site(frame, sample);
     for (size_t i = 0; i < 16; i++) out[i] = kept[i];
-    return tip_find_defects(4, 4, 1023, threshold, mask, 16, frame, 16, out, 16, &at, &got) == number
-        && at == (number == 6 ? 5 : 0) && got == count && codes_are(out, number ? kept : mask, found, 2);
+    return tip_find_defects(4, 4, 1023, threshold, mask, 16, frame, 16, out, 16, &at, &above, &got) == number
+        && at == (number == 6 ? 5 : 0) && above == (number == 6) && got == count && codes_are(out, number ? kept : mask, found, 2);
+}
+
+/* Above full scale at 3, 9 and 15; the gap, the defect and the filled site hold more, site 12 is at full scale. */
+static const uint8_t all_codes[16] = {0, 1, 2, 0, 0, 3, 0, 0, 0, 0, 0, 0, 0, 0, 0, 0};
+static const uint16_t three_over[16] = {64, 65535, 65535, 1024, 64, 65535, 64, 64, 64, 1025, 64, 64, 1023, 64, 64, 4095};
+
+static int refuses_to_find(const uint8_t mask[16], uint64_t number, uint64_t place, uint64_t over)
+{
+    uint8_t out_mask[16];
+    uint64_t at = UNWRITTEN, above = UNWRITTEN, count = UNWRITTEN;
+    for (size_t i = 0; i < 16; i++) out_mask[i] = 9;
+    if (tip_find_defects(4, 4, 1023, 28, mask, 16, three_over, 16, out_mask, 16, &at, &above, &count) != number
+        || at != place || above != over || count != 0) return 0;
+    for (size_t i = 0; i < 16; i++)
+        if (out_mask[i] != 9) return 0;
+    return 1;
+}
+
+static int refuses_to_repair(const uint8_t mask[16], uint64_t number, uint64_t place, uint64_t over)
+{
+    uint8_t out_mask[16];
+    uint16_t out[16];
+    uint64_t at = UNWRITTEN, above = UNWRITTEN, filled = UNWRITTEN;
+    for (size_t i = 0; i < 16; i++) out[i] = out_mask[i] = 9;
+    if (tip_repair(4, 4, 1023, mask, 16, three_over, 16, out, 16, out_mask, 16, &at, &above, &filled) != number
+        || at != place || above != over || filled != 0) return 0;
+    for (size_t i = 0; i < 16; i++)
+        if (out[i] != 9 || out_mask[i] != 9) return 0;
+    return 1;
 }
 
 /* The defect at 5 beside neighbours 60 and 65 that are surveyed and gaps that hold 65535. */
@@ -345,11 +398,12 @@ static int repairs(void)
     static const uint8_t mask[16] = {1, 1, 1, 1, 1, 2, 1, 0, 1, 1, 1, 1, 1, 0, 1, 1};
     uint8_t out_mask[16];
     uint16_t frame[16], out[16];
-    uint64_t at = UNWRITTEN, filled = UNWRITTEN;
+    uint64_t at = UNWRITTEN, above = UNWRITTEN, filled = UNWRITTEN;
     for (size_t i = 0; i < 16; i++) frame[i] = 65535;
     frame[7] = 60;
     frame[13] = 65;
-    if (tip_repair(4, 4, 1023, mask, 16, frame, 16, out, 16, out_mask, 16, &at, &filled) != 0 || at != 0 || filled != 1) return 0;
+    if (tip_repair(4, 4, 1023, mask, 16, frame, 16, out, 16, out_mask, 16, &at, &above, &filled) != 0
+        || at != 0 || above != 0 || filled != 1) return 0;
     for (size_t i = 0; i < 16; i++)
         if (out[i] != (i == 5 ? 63 : frame[i])) return 0;
     return codes_are(out_mask, mask, 5, 3);
@@ -357,19 +411,26 @@ static int repairs(void)
 
 static void sites(void)
 {
+    static const uint8_t bad_code_too[16] = {0, 1, 2, 0, 0, 3, 0, 0, 0, 0, 0, 0, 0, 0, 4, 0};
+
     check("tip_find_defects", "K6", finds(28, 102, 0, 1, 5));
     check("tip_find_defects", "K7", finds(28, 101, 0, 0, 16));
     check("tip_find_defects", "the like of K6 for 24", finds(24, 96, 0, 1, 5));
     check("tip_find_defects", "the like of K7 for 24", finds(24, 95, 0, 0, 16));
     check("tip_find_defects", "the default threshold", finds(0, 96, 0, 1, 5) && finds(0, 95, 0, 0, 16) && finds(0, 101, 0, 1, 5));
     check("tip_find_defects", "refused 3", finds(4096, 102, 3, 0, 16));
-    check("tip_find_defects", "refused 6 at 5", finds(28, 1024, 6, 0, 16));
+    check("tip_find_defects", "refused 5 at 14", refuses_to_find(bad_code_too, 5, 14, 0));
+    check("tip_find_defects", "refused 6 at 5, 1 over", finds(28, 1024, 6, 0, 16));
+    check("tip_find_defects", "refused 6 at 3, 3 over, beside all other codes", refuses_to_find(all_codes, 6, 3, 3));
     check("tip_repair", "the mean of 60 and 65, half rounded up", repairs());
+    check("tip_repair", "refused 5 at 14", refuses_to_repair(bad_code_too, 5, 14, 0));
+    check("tip_repair", "refused 6 at 3, 3 over, beside all other codes", refuses_to_repair(all_codes, 6, 3, 3));
 }
 
 /* ---- tip_defective_rows, tip_defective_columns ---- */
 
-typedef uint64_t (*lines_call)(size_t, size_t, uint64_t, const uint8_t *, size_t, const uint16_t *, size_t, uint8_t *, size_t, uint64_t *);
+typedef uint64_t (*lines_call)(size_t, size_t, uint64_t, const uint8_t *, size_t, const uint16_t *, size_t, uint8_t *, size_t,
+                               uint64_t *, uint64_t *);
 
 /* All 100 but the site `at`, in a window with one side of 2; `marked` is the one mark, 36 where there is none. */
 static int marks(lines_call call, size_t width, size_t height, size_t at, uint16_t sample, size_t marked)
@@ -377,25 +438,34 @@ static int marks(lines_call call, size_t width, size_t height, size_t at, uint16
     static const uint8_t mask[36];
     uint16_t frame[36];
     uint8_t out[36];
-    uint64_t place = UNWRITTEN;
+    uint64_t place = UNWRITTEN, over = UNWRITTEN;
     for (size_t i = 0; i < 36; i++) {
         frame[i] = i == at ? sample : 100;
         out[i] = 9;
     }
-    if (call(width, height, 1023, mask, 36, frame, 36, out, 36, &place) != 0 || place != 0) return 0;
+    if (call(width, height, 1023, mask, 36, frame, 36, out, 36, &place, &over) != 0 || place != 0 || over != 0) return 0;
     for (size_t i = 0; i < 36; i++)
         if (out[i] != (i == marked)) return 0;
     return 1;
 }
 
-static int refuses_lines(lines_call call, size_t width, size_t height, size_t marks_len, uint64_t number)
+/*
+ * All surveyed and at full scale, but at 7, 20 and 31, one above it; the first `unsurveyed` sites have codes 1 to 3 in turn and hold
+ * 65535. Site 31 has the code `last`.
+ */
+static int refuses_lines(lines_call call, size_t width, size_t height, size_t marks_len, size_t unsurveyed, uint8_t last,
+                         uint64_t number, uint64_t place, uint64_t over)
 {
-    static const uint8_t mask[36];
-    static const uint16_t frame[36];
-    uint8_t out[36];
-    uint64_t place = UNWRITTEN;
-    for (size_t i = 0; i < 36; i++) out[i] = 9;
-    if (call(width, height, 1023, mask, width * height, frame, width * height, out, marks_len, &place) != number || place != 0) return 0;
+    uint8_t mask[36], out[36];
+    uint16_t frame[36];
+    uint64_t at = UNWRITTEN, above = UNWRITTEN;
+    for (size_t i = 0; i < 36; i++) {
+        mask[i] = (uint8_t)(i == 31 ? last : i < unsurveyed ? i % 3 + 1 : 0);
+        frame[i] = i < unsurveyed ? 65535 : i == 7 || i == 20 || i == 31 ? 1024 : 1023;
+        out[i] = 9;
+    }
+    if (call(width, height, 1023, mask, width * height, frame, width * height, out, marks_len, &at, &above) != number
+        || at != place || above != over) return 0;
     for (size_t i = 0; i < 36; i++)
         if (out[i] != 9) return 0;
     return 1;
@@ -406,10 +476,18 @@ static void lines(void)
     check("tip_defective_rows", "K9", marks(tip_defective_rows, 2, 18, 16, 103, 4));
     check("tip_defective_rows", "K10", marks(tip_defective_rows, 2, 18, 16, 102, 36));
     check("tip_defective_rows", "planes in turn", marks(tip_defective_rows, 2, 18, 17, 103, 13) && marks(tip_defective_rows, 2, 18, 18, 103, 22));
-    check("tip_defective_rows", "refused 4", refuses_lines(tip_defective_rows, 2, 16, 31, 4));
-    check("tip_defective_rows", "refused 9", refuses_lines(tip_defective_rows, 2, 16, 32, 9));
+    check("tip_defective_rows", "refused 4", refuses_lines(tip_defective_rows, 2, 16, 31, 0, 0, 4, 0, 0));
+    check("tip_defective_rows", "refused 5 at 31", refuses_lines(tip_defective_rows, 2, 18, 36, 0, 4, 5, 31, 0));
+    check("tip_defective_rows", "refused 6 at 7, 3 over", refuses_lines(tip_defective_rows, 2, 18, 36, 0, 0, 6, 7, 3));
+    check("tip_defective_rows", "refused 6 at 20, 2 over, beside all other codes", refuses_lines(tip_defective_rows, 2, 18, 36, 9, 0, 6, 20, 2));
+    check("tip_defective_rows", "refused 6 at 7, 3 over, before 9", refuses_lines(tip_defective_rows, 2, 16, 32, 0, 0, 6, 7, 3));
+    check("tip_defective_rows", "refused 9", refuses_lines(tip_defective_rows, 2, 16, 32, 32, 1, 9, 0, 0));
     check("tip_defective_columns", "K9 on its side", marks(tip_defective_columns, 18, 2, 8, 103, 4));
-    check("tip_defective_columns", "refused 9", refuses_lines(tip_defective_columns, 16, 2, 32, 9));
+    check("tip_defective_columns", "refused 5 at 31", refuses_lines(tip_defective_columns, 18, 2, 36, 0, 4, 5, 31, 0));
+    check("tip_defective_columns", "refused 6 at 7, 3 over", refuses_lines(tip_defective_columns, 18, 2, 36, 0, 0, 6, 7, 3));
+    check("tip_defective_columns", "refused 6 at 20, 2 over, beside all other codes",
+          refuses_lines(tip_defective_columns, 18, 2, 36, 9, 0, 6, 20, 2));
+    check("tip_defective_columns", "refused 9", refuses_lines(tip_defective_columns, 16, 2, 32, 32, 1, 9, 0, 0));
 }
 
 /* ---- tip_colour_ratios ---- */
@@ -417,33 +495,50 @@ static void lines(void)
 /* 64 x 48, each plane of one level: 100, 200, 300, 400 for the planes (0,0), (0,1), (1,0), (1,1). */
 static uint16_t plane_level(size_t i) { return (uint16_t)(100 * (1 + i % 64 % 2 + 2 * (i / 64 % 2))); }
 
-static int has_ratios(size_t width, uint64_t black_level, uint64_t order, uint64_t number, const int64_t over[3], const uint64_t under[3])
+struct ratios {
+    int64_t numerators[3];
+    uint64_t denominators[3];
+};
+
+/* What is not surveyed holds 65535. */
+static int has_ratios(size_t width, uint64_t full_scale, uint64_t black_level, uint64_t order, const uint8_t *mask,
+                      uint64_t number, uint64_t place, uint64_t over, const struct ratios *ratios)
 {
-    static const uint8_t mask[64 * 48];
     static uint16_t frame[64 * 48];
-    uint64_t at = UNWRITTEN, got_under[3] = {UNWRITTEN, UNWRITTEN, UNWRITTEN};
-    int64_t got_over[3] = {UNWRITTEN, UNWRITTEN, UNWRITTEN};
-    for (size_t i = 0; i < 64 * 48; i++) frame[i] = plane_level(i);
-    if (tip_colour_ratios(width, 48, 1023, black_level, order, mask, width * 48, frame, width * 48, &at, &got_over[0], &got_under[0],
-                          &got_over[1], &got_under[1], &got_over[2], &got_under[2]) != number || at != 0) return 0;
+    uint64_t at = UNWRITTEN, above = UNWRITTEN;
+    struct ratios got = {{UNWRITTEN, UNWRITTEN, UNWRITTEN}, {UNWRITTEN, UNWRITTEN, UNWRITTEN}};
+    for (size_t i = 0; i < 64 * 48; i++) frame[i] = mask[i] ? 65535 : plane_level(i);
+    if (tip_colour_ratios(width, 48, full_scale, black_level, order, mask, width * 48, frame, width * 48, &at, &above,
+                          &got.numerators[0], &got.denominators[0], &got.numerators[1], &got.denominators[1],
+                          &got.numerators[2], &got.denominators[2]) != number || at != place || above != over) return 0;
     for (size_t i = 0; i < 3; i++)
-        if (got_over[i] != over[i] || got_under[i] != under[i]) return 0;
+        if (got.numerators[i] != ratios->numerators[i] || got.denominators[i] != ratios->denominators[i]) return 0;
     return 1;
 }
 
 static void colour_ratios(void)
 {
     /* 768 sites in a centre: T(X) x 768 over T(Gr) x 768, R, B, Gb in turn. */
-    static const int64_t none[3], order_0[3] = {50LL * 768 * 768, 350LL * 768 * 768, 250LL * 768 * 768};
-    static const uint64_t zero[3], under_0[3] = {150ULL * 768 * 768, 150ULL * 768 * 768, 150ULL * 768 * 768};
-    static const int64_t order_1[3] = {150LL * 768 * 768, 250LL * 768 * 768, 350LL * 768 * 768};
-    static const uint64_t under_1[3] = {50ULL * 768 * 768, 50ULL * 768 * 768, 50ULL * 768 * 768};
+    static const struct ratios none, order_0 = {{50LL * 768 * 768, 350LL * 768 * 768, 250LL * 768 * 768},
+                                                {150ULL * 768 * 768, 150ULL * 768 * 768, 150ULL * 768 * 768}};
+    static const struct ratios order_1 = {{150LL * 768 * 768, 250LL * 768 * 768, 350LL * 768 * 768},
+                                          {50ULL * 768 * 768, 50ULL * 768 * 768, 50ULL * 768 * 768}};
+    /* The first three sites of plane (1,1), and one of (0,0), are not surveyed. */
+    static uint8_t codes[64 * 48];
+    const uint8_t *all = great_surveyed;
 
-    check("tip_colour_ratios", "order 0", has_ratios(64, 50, 0, 0, order_0, under_0));
-    check("tip_colour_ratios", "order 1", has_ratios(64, 50, 1, 0, order_1, under_1));
-    check("tip_colour_ratios", "refused 3", has_ratios(64, 50, 4, 3, none, zero));
-    check("tip_colour_ratios", "refused 9", has_ratios(62, 50, 0, 9, none, zero));
-    check("tip_colour_ratios", "refused 10", has_ratios(64, 200, 0, 10, none, zero));
+    codes[0] = codes[65] = 1;
+    codes[67] = 2;
+    codes[69] = 3;
+    check("tip_colour_ratios", "order 0", has_ratios(64, 1023, 50, 0, all, 0, 0, 0, &order_0));
+    check("tip_colour_ratios", "order 1", has_ratios(64, 1023, 50, 1, all, 0, 0, 0, &order_1));
+    check("tip_colour_ratios", "refused 3", has_ratios(64, 300, 50, 4, all, 3, 0, 0, &none));
+    check("tip_colour_ratios", "refused 6 at 65, 768 over", has_ratios(64, 300, 50, 0, all, 6, 65, 768, &none));
+    check("tip_colour_ratios", "refused 6 at 71, 765 over, beside all other codes", has_ratios(64, 300, 50, 0, codes, 6, 71, 765, &none));
+    check("tip_colour_ratios", "refused 9", has_ratios(62, 1023, 50, 0, all, 9, 0, 0, &none));
+    check("tip_colour_ratios", "refused 10", has_ratios(64, 1023, 200, 0, codes, 10, 0, 0, &none));
+    codes[3071] = 4;
+    check("tip_colour_ratios", "refused 5 at 3071", has_ratios(64, 300, 50, 0, codes, 5, 3071, 0, &none));
 }
 
 /* ---- tip_job ---- */
@@ -453,13 +548,24 @@ static const uint8_t k1_stream[47] = {
     1, 0, 2, 0, 2, 2, 0, 2, 0, 2, 3, 0, 2, 3, 255, 4, 0, 2, 0, 64, 5, 0, 4, 0, 0, 0, 0,
     6, 0, 5, 25, 25, 25, 25, 228, 7, 0, 5, 25, 25, 25, 26, 37, 0, 0, 0, 0};
 
-static int answers_job(const uint8_t *input, size_t len, uint64_t number, uint64_t place,
+static int answers_job(const uint8_t *input, size_t len, uint64_t number, uint64_t place, uint64_t over,
                        uint64_t sites, uint64_t p, uint64_t q, uint64_t r, int64_t dark)
 {
-    uint64_t at = UNWRITTEN, got_sites = UNWRITTEN, got_p = UNWRITTEN, got_q = UNWRITTEN, got_r = UNWRITTEN;
+    uint64_t at = UNWRITTEN, above = UNWRITTEN, got_sites = UNWRITTEN, got_p = UNWRITTEN, got_q = UNWRITTEN, got_r = UNWRITTEN;
     int64_t got_dark = UNWRITTEN;
-    return tip_job(input, len, &at, &got_sites, &got_p, &got_q, &got_r, &got_dark) == number
-        && at == place && got_sites == sites && got_p == p && got_q == q && got_r == r && got_dark == dark;
+    return tip_job(input, len, &at, &above, &got_sites, &got_p, &got_q, &got_r, &got_dark) == number
+        && at == place && above == over && got_sites == sites && got_p == p && got_q == q && got_r == r && got_dark == dark;
+}
+
+/* K1 with another full scale, and a code at site 3, where its samples are the greatest. */
+static int refuses_job(uint8_t full_scale, uint8_t code, uint64_t number, uint64_t place, uint64_t over)
+{
+    uint8_t stream[46];
+    for (size_t i = 0; i < 46; i++) stream[i] = k1_stream[i];
+    stream[13] = 0;
+    stream[14] = full_scale;
+    stream[26] = code;
+    return answers_job(stream, 46, number, place, over, 0, 0, 0, 0, 0);
 }
 
 static void job(void)
@@ -467,13 +573,18 @@ static void job(void)
     static const uint8_t other_tag[1] = {2}, other_length[3] = {1, 0, 3};
     static const uint8_t wide[10] = {1, 0, 2, 0, 66, 2, 0, 2, 0, 2};
 
-    check("tip_job", "K1", answers_job(k1_stream, 46, 0, 0, 4, 4, 32, 90, 150));
-    check("tip_job", "refused 20 at 0, no input", answers_job(k1_stream, 0, 20, 0, 0, 0, 0, 0, 0));
-    check("tip_job", "refused 20 at 35, cut in field 7", answers_job(k1_stream, 42, 20, 35, 0, 0, 0, 0, 0));
-    check("tip_job", "refused 21", answers_job(other_tag, 1, 21, 0, 0, 0, 0, 0, 0));
-    check("tip_job", "refused 22", answers_job(other_length, 3, 22, 0, 0, 0, 0, 0, 0));
-    check("tip_job", "refused 23 at 46", answers_job(k1_stream, 47, 23, 46, 0, 0, 0, 0, 0));
-    check("tip_job", "refused 24", answers_job(wide, 10, 24, 0, 0, 0, 0, 0, 0));
+    check("tip_job", "K1", answers_job(k1_stream, 46, 0, 0, 0, 4, 4, 32, 90, 150));
+    check("tip_job", "refused 5 at 3", refuses_job(101, 4, 5, 3, 0));
+    check("tip_job", "refused 6 at 3, 1 over", refuses_job(103, 0, 6, 3, 1));
+    check("tip_job", "refused 6 at 2, 4 over, of both frames", refuses_job(101, 0, 6, 2, 4));
+    check("tip_job", "refused 6 at 2, 2 over, beside each other code",
+          refuses_job(101, 1, 6, 2, 2) && refuses_job(101, 2, 6, 2, 2) && refuses_job(101, 3, 6, 2, 2));
+    check("tip_job", "refused 20 at 0, no input", answers_job(k1_stream, 0, 20, 0, 0, 0, 0, 0, 0, 0));
+    check("tip_job", "refused 20 at 35, cut in field 7", answers_job(k1_stream, 42, 20, 35, 0, 0, 0, 0, 0, 0));
+    check("tip_job", "refused 21", answers_job(other_tag, 1, 21, 0, 0, 0, 0, 0, 0, 0));
+    check("tip_job", "refused 22", answers_job(other_length, 3, 22, 0, 0, 0, 0, 0, 0, 0));
+    check("tip_job", "refused 23 at 46", answers_job(k1_stream, 47, 23, 46, 0, 0, 0, 0, 0, 0));
+    check("tip_job", "refused 24", answers_job(wide, 10, 24, 0, 0, 0, 0, 0, 0, 0));
 }
 
 /* ---- all calls ---- */
