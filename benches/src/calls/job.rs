@@ -34,7 +34,8 @@ pub fn contest() -> Contest<Input, Output> {
             ("64 x 64", stream(64, 64, |_| {})),
             ("2 x 4", stream(2, 4, |_| {})),
             ("refused 1", stream(3, 4, |_| {})),
-            ("refused 6", stream(4, 4, |bytes| bytes[14] = 10)),
+            // full scale 511, which both frames exceed
+            ("refused 6", stream(4, 4, |bytes| bytes[13] = 1)),
             ("refused 20", stream(4, 4, |bytes| bytes.truncate(30))),
             ("refused 21", stream(4, 4, |bytes| bytes[10] = 4)),
             ("refused 22", stream(4, 4, |bytes| bytes[12] = 3)),
