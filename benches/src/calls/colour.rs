@@ -13,6 +13,7 @@ extern "C" {
         frame: *const u16,
         frame_len: usize,
         place: *mut u64,
+        over: *mut u64,
         r_numerator: *mut i64,
         r_denominator: *mut u64,
         b_numerator: *mut i64,
@@ -37,6 +38,7 @@ pub struct Input {
 pub struct Output {
     number: u64,
     place: u64,
+    over: u64,
     numerators: [i64; 3],
     denominators: [u64; 3],
 }
@@ -48,6 +50,7 @@ pub fn contest() -> Contest<Input, Output> {
             ("128 x 128", input(128, 128, 0, |_| {})),
             ("66 x 50, order 3", input(66, 50, 3, |_| {})),
             ("refused 3", input(64, 48, 4, |_| {})),
+            ("refused 6", input(64, 48, 0, |case| case.full_scale = 500)),
             ("refused 7", input(64, 48, 0, |case| case.mask.fill(1))),
             ("refused 9", input(62, 48, 0, |case| case.mask.fill(1))),
             (
@@ -58,6 +61,7 @@ pub fn contest() -> Contest<Input, Output> {
         lent: |_| Output {
             number: 77,
             place: 77,
+            over: 77,
             numerators: [77; 3],
             denominators: [77; 3],
         },
@@ -97,6 +101,7 @@ fn library(input: &Input, output: &mut Output) {
             input.frame.as_ptr(),
             input.frame.len(),
             &mut output.place,
+            &mut output.over,
             r_numerator,
             r_denominator,
             b_numerator,
@@ -116,6 +121,7 @@ fn plain<const WALK: bool>(input: &Input, output: &mut Output) {
     *output = Output {
         number: refusal.0,
         place: refusal.1,
+        over: refusal.2,
         numerators,
         denominators,
     };
@@ -133,25 +139,25 @@ fn ratios<const WALK: bool>(input: &Input) -> Result<([i64; 3], [u64; 3]), Refus
         &lengths,
     ))?;
     accepted(codes::<WALK>(mask))?;
-    accepted(samples::<WALK>(input.full_scale, mask, frame))?;
+    accepted(samples::<WALK, 1>(input.full_scale, mask, [frame]))?;
     if input.width < 64 || input.height < 48 {
-        return Err((9, 0));
+        return Err((9, 0, 0));
     }
     // the planes of R, Gr, B and Gb for each order
     let planes =
         [[0, 1, 3, 2], [1, 0, 2, 3], [3, 2, 0, 1], [2, 3, 1, 0]][input.bayer_order as usize];
     let centres = planes.map(|plane| centre(input, plane / 2, plane % 2));
     if centres.iter().any(|&(_, count)| count == 0) {
-        return Err((7, 0));
+        return Err((7, 0, 0));
     }
     let [r, gr, b, gb] = centres;
     if gr.0 <= 0 {
-        return Err((10, 0));
+        return Err((10, 0, 0));
     }
-    let over = [r, b, gb];
+    let others = [r, b, gb];
     Ok((
-        over.map(|(total, _)| total * gr.1 as i64),
-        over.map(|(_, count)| gr.0 as u64 * count),
+        others.map(|(total, _)| total * gr.1 as i64),
+        others.map(|(_, count)| gr.0 as u64 * count),
     ))
 }
 

@@ -12,6 +12,7 @@ extern "C" {
         frame: *const u16,
         frame_len: usize,
         place: *mut u64,
+        over: *mut u64,
         numerator: *mut i64,
         denominator: *mut u64,
     ) -> u64;
@@ -29,6 +30,7 @@ pub struct Input {
 pub struct Output {
     number: u64,
     place: u64,
+    over: u64,
     numerator: i64,
     denominator: u64,
 }
@@ -46,6 +48,7 @@ pub fn contest() -> Contest<Input, Output> {
         lent: |_| Output {
             number: 77,
             place: 77,
+            over: 77,
             numerator: 77,
             denominator: 77,
         },
@@ -80,6 +83,7 @@ fn library(input: &Input, output: &mut Output) {
             input.frame.as_ptr(),
             input.frame.len(),
             &mut output.place,
+            &mut output.over,
             &mut output.numerator,
             &mut output.denominator,
         )
@@ -95,6 +99,7 @@ fn plain<const WALK: bool>(input: &Input, output: &mut Output) {
     *output = Output {
         number: refusal.0,
         place: refusal.1,
+        over: refusal.2,
         numerator,
         denominator,
     };
@@ -111,16 +116,16 @@ fn level<const WALK: bool>(input: &Input) -> Result<(i64, u64), Refusal> {
         &[mask.len(), frame.len()],
     ))?;
     accepted(codes::<WALK>(mask))?;
-    accepted(samples::<WALK>(input.full_scale, mask, frame))?;
+    accepted(samples::<WALK, 1>(input.full_scale, mask, [frame]))?;
     let black = input.black_level as i64;
     let (mut sum, mut n) = (0i64, 0u64);
     for i in 0..mask.len() {
-        let over = frame[i] as i64 - black;
-        sum += if mask[i] == 0 { over } else { 0 };
+        let above_black = frame[i] as i64 - black;
+        sum += if mask[i] == 0 { above_black } else { 0 };
         n += u64::from(mask[i] == 0);
     }
     if n == 0 {
-        return Err((7, 0));
+        return Err((7, 0, 0));
     }
     Ok((sum, n))
 }

@@ -6,6 +6,7 @@ extern "C" {
         input: *const u8,
         input_len: usize,
         place: *mut u64,
+        over: *mut u64,
         sites: *mut u64,
         p: *mut u64,
         q: *mut u64,
@@ -22,6 +23,7 @@ pub struct Input {
 pub struct Output {
     number: u64,
     place: u64,
+    over: u64,
     /// n, P, Q and r.
     whole: [u64; 4],
     dark: i64,
@@ -45,6 +47,7 @@ pub fn contest() -> Contest<Input, Output> {
         lent: |_| Output {
             number: 77,
             place: 77,
+            over: 77,
             whole: [77; 4],
             dark: 77,
         },
@@ -92,6 +95,7 @@ fn library(input: &Input, output: &mut Output) {
             input.stream.as_ptr(),
             input.stream.len(),
             &mut output.place,
+            &mut output.over,
             sites,
             p,
             q,
@@ -110,6 +114,7 @@ fn plain<const WALK: bool>(input: &Input, output: &mut Output) {
     *output = Output {
         number: refusal.0,
         place: refusal.1,
+        over: refusal.2,
         whole,
         dark,
     };
@@ -122,19 +127,19 @@ fn word(bytes: &[u8], at: usize) -> usize {
 /// The body of the field at an offset, or its fault.
 fn field(bytes: &[u8], at: usize, tag: u8, long: usize) -> Result<&[u8], Refusal> {
     if bytes.len() <= at {
-        return Err((20, at as u64));
+        return Err((20, at as u64, 0));
     }
     if bytes[at] != tag {
-        return Err((21, at as u64));
+        return Err((21, at as u64, 0));
     }
     if bytes.len() < at + 3 {
-        return Err((20, at as u64));
+        return Err((20, at as u64, 0));
     }
     if word(bytes, at + 1) != long {
-        return Err((22, at as u64));
+        return Err((22, at as u64, 0));
     }
     if bytes.len() < at + 3 + long {
-        return Err((20, at as u64));
+        return Err((20, at as u64, 0));
     }
     Ok(&bytes[at + 3..at + 3 + long])
 }
@@ -151,10 +156,10 @@ fn figures<const WALK: bool>(bytes: &[u8]) -> Result<([u64; 4], i64), Refusal> {
     let width = word(field(bytes, 0, 1, 2)?, 0);
     let height = word(field(bytes, 5, 2, 2)?, 0);
     if !legal(width) || !legal(height) {
-        return Err((1, 0));
+        return Err((1, 0, 0));
     }
     if width > 64 || height > 64 {
-        return Err((24, 0));
+        return Err((24, 0, 0));
     }
     let sites = width * height;
     let packed = sites * 5 / 4;
@@ -166,7 +171,7 @@ fn figures<const WALK: bool>(bytes: &[u8]) -> Result<([u64; 4], i64), Refusal> {
     let last = 29 + sites + 2 * packed;
     field(bytes, last, 0, 0)?;
     if bytes.len() > last + 3 {
-        return Err((23, last as u64 + 3));
+        return Err((23, last as u64 + 3, 0));
     }
     let (mut first, mut second) = ([0u16; 4096], [0u16; 4096]);
     let (first, second) = (&mut first[..sites], &mut second[..sites]);
@@ -174,8 +179,7 @@ fn figures<const WALK: bool>(bytes: &[u8]) -> Result<([u64; 4], i64), Refusal> {
     unpacked(second_field, second);
     accepted(shape(width, height, full_scale, false, &[]))?;
     accepted(codes::<WALK>(mask))?;
-    accepted(samples::<WALK>(full_scale, mask, first))?;
-    accepted(samples::<WALK>(full_scale, mask, second))?;
+    accepted(samples::<WALK, 2>(full_scale, mask, [first, second]))?;
     let (mut n, mut a, mut b, mut squares) = (0u64, 0u64, 0u64, 0u64);
     for i in 0..mask.len() {
         let surveyed = mask[i] == 0;
@@ -186,10 +190,10 @@ fn figures<const WALK: bool>(bytes: &[u8]) -> Result<([u64; 4], i64), Refusal> {
         squares += if surveyed { (d * d) as u64 } else { 0 };
     }
     if n < 2 {
-        return Err((7, 0));
+        return Err((7, 0, 0));
     }
     if black_level as u64 > full_scale {
-        return Err((3, 0));
+        return Err((3, 0, 0));
     }
     let d = a.abs_diff(b);
     let p = n * squares - d * d;

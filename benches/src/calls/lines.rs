@@ -12,6 +12,7 @@ type Lines = unsafe extern "C" fn(
     *mut u8,
     usize,
     *mut u64,
+    *mut u64,
 ) -> u64;
 
 extern "C" {
@@ -26,6 +27,7 @@ extern "C" {
         marks: *mut u8,
         marks_len: usize,
         place: *mut u64,
+        over: *mut u64,
     ) -> u64;
     fn tip_defective_columns(
         width: usize,
@@ -38,6 +40,7 @@ extern "C" {
         marks: *mut u8,
         marks_len: usize,
         place: *mut u64,
+        over: *mut u64,
     ) -> u64;
 }
 
@@ -53,6 +56,7 @@ pub struct Input {
 pub struct Output {
     number: u64,
     place: u64,
+    over: u64,
     marks: Vec<u8>,
 }
 
@@ -92,6 +96,7 @@ fn contest(
         lent: |input| Output {
             number: 77,
             place: 77,
+            over: 77,
             marks: vec![7; input.marks_len],
         },
         library,
@@ -126,6 +131,7 @@ fn library(lines: Lines, input: &Input, output: &mut Output) {
             output.marks.as_mut_ptr(),
             output.marks.len(),
             &mut output.place,
+            &mut output.over,
         )
     };
 }
@@ -133,7 +139,7 @@ fn library(lines: Lines, input: &Input, output: &mut Output) {
 #[inline(never)]
 fn plain<const ROWS: bool, const WALK: bool>(input: &Input, output: &mut Output) {
     let found = refusal::<WALK>(input, output.marks.len());
-    (output.number, output.place) = found.err().unwrap_or(ACCEPTED);
+    (output.number, output.place, output.over) = found.err().unwrap_or(ACCEPTED);
     if found.is_err() {
         return;
     }
@@ -158,12 +164,12 @@ fn refusal<const WALK: bool>(input: &Input, marks: usize) -> Result<(), Refusal>
         &lengths,
     ))?;
     if marks != 2 * input.side {
-        return Err((4, 0));
+        return Err((4, 0, 0));
     }
     accepted(codes::<WALK>(mask))?;
-    accepted(samples::<WALK>(input.full_scale, mask, frame))?;
+    accepted(samples::<WALK, 1>(input.full_scale, mask, [frame]))?;
     if input.side < 18 {
-        return Err((9, 0));
+        return Err((9, 0, 0));
     }
     Ok(())
 }

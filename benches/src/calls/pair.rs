@@ -13,6 +13,7 @@ extern "C" {
         second: *const u16,
         second_len: usize,
         place: *mut u64,
+        over: *mut u64,
         n: *mut u64,
         p: *mut u64,
         q: *mut u64,
@@ -35,6 +36,7 @@ pub struct Input {
 pub struct Output {
     number: u64,
     place: u64,
+    over: u64,
     /// n, P, Q and r.
     whole: [u64; 4],
     /// The variance and the noise.
@@ -49,12 +51,17 @@ pub fn contest() -> Contest<Input, Output> {
             ("refused 2", input(128, 4096, |_| {})),
             ("refused 5", input(128, 1023, |case| case.mask[500] = 4)),
             ("refused 6", input(128, 500, |_| {})),
+            (
+                "refused 6, second",
+                input(128, 1023, |case| case.second[900..].fill(1024)),
+            ),
             ("refused 7", input(2, 1023, |case| case.mask.fill(1))),
             ("2 x 2", input(2, 1023, |_| {})),
         ],
         lent: |_| Output {
             number: 77,
             place: 77,
+            over: 77,
             whole: [77; 4],
             floats: [77.0; 2],
         },
@@ -93,6 +100,7 @@ fn library(input: &Input, output: &mut Output) {
             input.second.as_ptr(),
             input.second.len(),
             &mut output.place,
+            &mut output.over,
             n,
             p,
             q,
@@ -112,6 +120,7 @@ fn plain<const WALK: bool>(input: &Input, output: &mut Output) {
     *output = Output {
         number: refusal.0,
         place: refusal.1,
+        over: refusal.2,
         whole,
         floats,
     };
@@ -129,8 +138,7 @@ fn figures<const WALK: bool>(input: &Input) -> Result<([u64; 4], [f64; 2]), Refu
         &lengths,
     ))?;
     accepted(codes::<WALK>(mask))?;
-    accepted(samples::<WALK>(input.full_scale, mask, first))?;
-    accepted(samples::<WALK>(input.full_scale, mask, second))?;
+    accepted(samples::<WALK, 2>(input.full_scale, mask, [first, second]))?;
     let (mut n, mut a, mut b, mut squares) = (0u64, 0u64, 0u64, 0u64);
     for i in 0..mask.len() {
         let surveyed = mask[i] == 0;
@@ -141,7 +149,7 @@ fn figures<const WALK: bool>(input: &Input) -> Result<([u64; 4], [f64; 2]), Refu
         squares += if surveyed { (d * d) as u64 } else { 0 };
     }
     if n < 2 {
-        return Err((7, 0));
+        return Err((7, 0, 0));
     }
     let d = a.abs_diff(b);
     let p = n * squares - d * d;

@@ -162,13 +162,13 @@ fn refusal<const WALK: bool>(input: &Input, lines: usize) -> Result<(), Refusal>
     ))?;
     accepted(codes::<WALK>(mask))?;
     if some::<WALK>(mask.len(), |i| mask[i] != 0) {
-        return Err((8, 0));
+        return Err((8, 0, 0));
     }
     if lines < 12 {
-        return Err((9, 0));
+        return Err((9, 0, 0));
     }
     if some::<WALK>(sums.len(), |i| sums[i] as u64 > k * input.full_scale) {
-        return Err((11, 0));
+        return Err((11, 0, 0));
     }
     Ok(())
 }
@@ -219,7 +219,7 @@ fn answer(
     sites: usize,
     output: &mut Output,
 ) {
-    if let Err((number, place)) = found {
+    if let Err((number, place, _)) = found {
         *output = Output {
             number,
             place,

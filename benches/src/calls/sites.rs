@@ -14,6 +14,7 @@ extern "C" {
         out_mask: *mut u8,
         out_mask_len: usize,
         place: *mut u64,
+        over: *mut u64,
         count: *mut u64,
     ) -> u64;
     fn tip_repair(
@@ -29,6 +30,7 @@ extern "C" {
         out_mask: *mut u8,
         out_mask_len: usize,
         place: *mut u64,
+        over: *mut u64,
         filled: *mut u64,
     ) -> u64;
 }
@@ -47,6 +49,7 @@ pub struct Input {
 pub struct Output {
     number: u64,
     place: u64,
+    over: u64,
     count: u64,
     out_frame: Vec<u16>,
     out_mask: Vec<u8>,
@@ -85,6 +88,7 @@ fn contest(
         lent: |input| Output {
             number: 77,
             place: 77,
+            over: 77,
             count: 77,
             out_frame: vec![7; input.frame.len()],
             out_mask: vec![7; input.mask.len()],
@@ -125,6 +129,7 @@ fn library_find(input: &Input, output: &mut Output) {
             output.out_mask.as_mut_ptr(),
             output.out_mask.len(),
             &mut output.place,
+            &mut output.over,
             &mut output.count,
         )
     };
@@ -146,6 +151,7 @@ fn library_repair(input: &Input, output: &mut Output) {
             output.out_mask.as_mut_ptr(),
             output.out_mask.len(),
             &mut output.place,
+            &mut output.over,
             &mut output.count,
         )
     };
@@ -160,7 +166,11 @@ fn refusal<const WALK: bool>(input: &Input, other: bool, lengths: &[usize]) -> R
         lengths,
     ))?;
     accepted(codes::<WALK>(&input.mask))?;
-    accepted(samples::<WALK>(input.full_scale, &input.mask, &input.frame))
+    accepted(samples::<WALK, 1>(
+        input.full_scale,
+        &input.mask,
+        [&input.frame],
+    ))
 }
 
 /// Count and total of the surveyed sites of a site's plane that are at most `reach` rows and columns of it away.
@@ -190,7 +200,7 @@ fn around(input: &Input, y: usize, x: usize, reach: usize) -> (u64, u64) {
 fn plain_find<const WALK: bool>(input: &Input, output: &mut Output) {
     let lengths = [input.mask.len(), input.frame.len(), output.out_mask.len()];
     let found = refusal::<WALK>(input, input.threshold > 4095, &lengths);
-    (output.number, output.place) = found.err().unwrap_or(ACCEPTED);
+    (output.number, output.place, output.over) = found.err().unwrap_or(ACCEPTED);
     output.count = 0;
     if found.is_err() {
         return;
@@ -221,7 +231,7 @@ fn plain_repair<const WALK: bool>(input: &Input, output: &mut Output) {
         output.out_mask.len(),
     ];
     let found = refusal::<WALK>(input, false, &lengths);
-    (output.number, output.place) = found.err().unwrap_or(ACCEPTED);
+    (output.number, output.place, output.over) = found.err().unwrap_or(ACCEPTED);
     output.count = 0;
     if found.is_err() {
         return;

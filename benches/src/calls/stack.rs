@@ -16,6 +16,7 @@ extern "C" {
         squares: *mut u32,
         squares_len: usize,
         place: *mut u64,
+        over: *mut u64,
         count: *mut u64,
     ) -> u64;
     fn tip_stack_variance(
@@ -51,6 +52,7 @@ pub struct Input {
 pub struct Added {
     number: u64,
     place: u64,
+    over: u64,
     count: u64,
     sums: Vec<u32>,
     squares: Vec<u32>,
@@ -83,6 +85,7 @@ pub fn add() -> Contest<Input, Added> {
         lent: |input| Added {
             number: 77,
             place: 77,
+            over: 77,
             count: 77,
             sums: input.sums.clone(),
             squares: input.squares.clone(),
@@ -168,6 +171,7 @@ fn library_add(input: &Input, output: &mut Added) {
             output.squares.as_mut_ptr(),
             output.squares.len(),
             &mut output.place,
+            &mut output.over,
             &mut output.count,
         )
     };
@@ -211,7 +215,7 @@ fn impossible<const WALK: bool>(
         (mask[i] == 0) & ((s > most) | (q > most_squares) | (frames * q < s * s))
     };
     if some::<WALK>(sites, bad) {
-        (11, 0)
+        (11, 0, 0)
     } else {
         ACCEPTED
     }
@@ -223,6 +227,7 @@ fn plain_add<const WALK: bool>(input: &Input, output: &mut Added) {
     let refusal = found.err().unwrap_or(ACCEPTED);
     output.number = refusal.0;
     output.place = refusal.1;
+    output.over = refusal.2;
     output.count = if found.is_ok() { input.frames + 1 } else { 0 };
 }
 
@@ -242,7 +247,7 @@ fn added<const WALK: bool>(
         &lengths,
     ))?;
     accepted(codes::<WALK>(mask))?;
-    accepted(samples::<WALK>(input.full_scale, mask, frame))?;
+    accepted(samples::<WALK, 1>(input.full_scale, mask, [frame]))?;
     accepted(impossible::<WALK>(
         input.frames,
         input.full_scale,
@@ -251,7 +256,7 @@ fn added<const WALK: bool>(
         squares,
     ))?;
     if input.frames == 100 {
-        return Err((12, 0));
+        return Err((12, 0, 0));
     }
     for i in 0..mask.len() {
         let p = if mask[i] == 0 { frame[i] as u32 } else { 0 };
@@ -295,7 +300,7 @@ fn varied<const WALK: bool>(input: &Input) -> Result<(u64, u64), Refusal> {
     accepted(codes::<WALK>(mask))?;
     let n = mask.iter().filter(|&&code| code == 0).count() as u64;
     if n == 0 || k < 2 {
-        return Err((7, 0));
+        return Err((7, 0, 0));
     }
     accepted(impossible::<WALK>(k, input.full_scale, mask, sums, squares))?;
     let mut numerator = 0;
