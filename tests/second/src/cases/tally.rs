@@ -3,8 +3,7 @@
 use std::collections::BTreeMap;
 use std::fmt::Debug;
 
-use reference::ranking::Law;
-use reference::shared::{Answer, Answers};
+use reference::shared::{Answer, Answers, Law};
 
 /// All inputs of one call: sides, parameters and lent buffers.
 pub trait Case: Clone + PartialEq + Debug {

@@ -14,6 +14,7 @@ extern "C" {
         frame: *const u16,
         frame_len: usize,
         place: *mut u64,
+        over: *mut u64,
         r_numerator: *mut i64,
         r_denominator: *mut u64,
         b_numerator: *mut i64,
@@ -24,7 +25,7 @@ extern "C" {
 }
 
 pub fn colour_ratios(window: Window, black_level: u64, bayer_order: u64) -> Answer {
-    let mut place = GARBAGE;
+    let (mut place, mut over) = (GARBAGE, GARBAGE);
     let (mut r_numerator, mut r_denominator) = (GARBAGE as i64, GARBAGE);
     let (mut b_numerator, mut b_denominator) = (GARBAGE as i64, GARBAGE);
     let (mut gb_numerator, mut gb_denominator) = (GARBAGE as i64, GARBAGE);
@@ -41,6 +42,7 @@ pub fn colour_ratios(window: Window, black_level: u64, bayer_order: u64) -> Answ
             window.frame.address(),
             window.frame.len(),
             &mut place,
+            &mut over,
             &mut r_numerator,
             &mut r_denominator,
             &mut b_numerator,
@@ -60,6 +62,7 @@ pub fn colour_ratios(window: Window, black_level: u64, bayer_order: u64) -> Answ
     Answer {
         number,
         place,
+        over,
         figures,
     }
 }

@@ -13,13 +13,15 @@ extern "C" {
         frame: *const u16,
         frame_len: usize,
         place: *mut u64,
+        over: *mut u64,
         numerator: *mut i64,
         denominator: *mut u64,
     ) -> u64;
 }
 
 pub fn dark_level(window: Window, black_level: u64) -> Answer {
-    let (mut place, mut numerator, mut denominator) = (GARBAGE, GARBAGE as i64, GARBAGE);
+    let (mut place, mut over) = (GARBAGE, GARBAGE);
+    let (mut numerator, mut denominator) = (GARBAGE as i64, GARBAGE);
     // SAFETY: each buffer is lent with its own length, and only the cells are written.
     let number = unsafe {
         tip_dark_level(
@@ -32,6 +34,7 @@ pub fn dark_level(window: Window, black_level: u64) -> Answer {
             window.frame.address(),
             window.frame.len(),
             &mut place,
+            &mut over,
             &mut numerator,
             &mut denominator,
         )
@@ -39,6 +42,7 @@ pub fn dark_level(window: Window, black_level: u64) -> Answer {
     Answer {
         number,
         place,
+        over,
         figures: vec![numerator.into(), denominator.into()],
     }
 }

@@ -7,6 +7,7 @@ extern "C" {
         input: *const u8,
         input_len: usize,
         place: *mut u64,
+        over: *mut u64,
         sites: *mut u64,
         p: *mut u64,
         q: *mut u64,
@@ -16,14 +17,16 @@ extern "C" {
 }
 
 pub fn job(input: &mut Lent<u8>) -> Answer {
-    let (mut place, mut sites, mut p, mut q) = (GARBAGE, GARBAGE, GARBAGE, GARBAGE);
-    let (mut r, mut dark) = (GARBAGE, GARBAGE as i64);
+    let (mut place, mut over) = (GARBAGE, GARBAGE);
+    let (mut sites, mut p, mut q, mut r) = (GARBAGE, GARBAGE, GARBAGE, GARBAGE);
+    let mut dark = GARBAGE as i64;
     // SAFETY: the input is lent with its own length, and only the cells are written.
     let number = unsafe {
         tip_job(
             input.address(),
             input.len(),
             &mut place,
+            &mut over,
             &mut sites,
             &mut p,
             &mut q,
@@ -35,6 +38,7 @@ pub fn job(input: &mut Lent<u8>) -> Answer {
     Answer {
         number,
         place,
+        over,
         figures,
     }
 }

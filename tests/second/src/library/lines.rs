@@ -14,6 +14,7 @@ type Call = unsafe extern "C" fn(
     marks: *mut u8,
     marks_len: usize,
     place: *mut u64,
+    over: *mut u64,
 ) -> u64;
 
 extern "C" {
@@ -28,6 +29,7 @@ extern "C" {
         marks: *mut u8,
         marks_len: usize,
         place: *mut u64,
+        over: *mut u64,
     ) -> u64;
 
     fn tip_defective_columns(
@@ -41,6 +43,7 @@ extern "C" {
         marks: *mut u8,
         marks_len: usize,
         place: *mut u64,
+        over: *mut u64,
     ) -> u64;
 }
 
@@ -53,7 +56,7 @@ pub fn defective_columns(window: Window, marks: &mut Lent<u8>) -> Answer {
 }
 
 fn answer(call: Call, window: Window, marks: &mut Lent<u8>) -> Answer {
-    let mut place = GARBAGE;
+    let (mut place, mut over) = (GARBAGE, GARBAGE);
     // SAFETY: each buffer is lent with its own length, and no two overlap.
     let number = unsafe {
         call(
@@ -67,11 +70,13 @@ fn answer(call: Call, window: Window, marks: &mut Lent<u8>) -> Answer {
             marks.address(),
             marks.len(),
             &mut place,
+            &mut over,
         )
     };
     Answer {
         number,
         place,
+        over,
         figures: vec![],
     }
 }

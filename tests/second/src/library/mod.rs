@@ -20,6 +20,9 @@ extern "C" {}
 /// Stands in every number's cell before a call.
 const GARBAGE: u64 = 0xC35A_A53C_96F0_0F69;
 
+/// For the calls that cannot give 6: they hand up no count of samples over.
+const NO_COUNT: u64 = 0;
+
 /// What every call on one frame is lent.
 pub struct Window<'a> {
     pub width: usize,

@@ -14,6 +14,7 @@ extern "C" {
         second: *const u16,
         second_len: usize,
         place: *mut u64,
+        over: *mut u64,
         n: *mut u64,
         p: *mut u64,
         q: *mut u64,
@@ -44,7 +45,7 @@ impl Pair<'_> {
 }
 
 pub fn pair_figures(mut pair: Pair) -> Answer {
-    let mut place = GARBAGE;
+    let (mut place, mut over) = (GARBAGE, GARBAGE);
     let (mut n, mut p, mut q, mut r) = (GARBAGE, GARBAGE, GARBAGE, GARBAGE);
     let (mut variance, mut noise) = (f64::from_bits(GARBAGE), f64::from_bits(GARBAGE));
     let (second, second_len) = pair.second_slice();
@@ -61,6 +62,7 @@ pub fn pair_figures(mut pair: Pair) -> Answer {
             second,
             second_len,
             &mut place,
+            &mut over,
             &mut n,
             &mut p,
             &mut q,
@@ -80,6 +82,7 @@ pub fn pair_figures(mut pair: Pair) -> Answer {
     Answer {
         number,
         place,
+        over,
         figures,
     }
 }

@@ -1,6 +1,6 @@
 use reference::shared::Answer;
 
-use super::{Lent, GARBAGE};
+use super::{Lent, GARBAGE, NO_COUNT};
 
 /// Both calls have this shape.
 type Call = unsafe extern "C" fn(
@@ -101,6 +101,7 @@ fn answer(call: Call, lent: Sums) -> Answer {
     Answer {
         number,
         place,
+        over: NO_COUNT,
         figures,
     }
 }

@@ -1,6 +1,6 @@
 use reference::shared::Answer;
 
-use super::{Lent, GARBAGE};
+use super::{Lent, GARBAGE, NO_COUNT};
 
 extern "C" {
     fn tip_unpack_raw10(
@@ -36,6 +36,7 @@ pub fn unpack_raw10(
     Answer {
         number,
         place,
+        over: NO_COUNT,
         figures: vec![],
     }
 }

@@ -15,6 +15,7 @@ extern "C" {
         out_mask: *mut u8,
         out_mask_len: usize,
         place: *mut u64,
+        over: *mut u64,
         count: *mut u64,
     ) -> u64;
 
@@ -31,12 +32,13 @@ extern "C" {
         out_mask: *mut u8,
         out_mask_len: usize,
         place: *mut u64,
+        over: *mut u64,
         filled: *mut u64,
     ) -> u64;
 }
 
 pub fn find_defects(window: Window, threshold: u64, out_mask: &mut Lent<u8>) -> Answer {
-    let (mut place, mut count) = (GARBAGE, GARBAGE);
+    let (mut place, mut over, mut count) = (GARBAGE, GARBAGE, GARBAGE);
     // SAFETY: each buffer is lent with its own length, and no two overlap.
     let number = unsafe {
         tip_find_defects(
@@ -51,18 +53,20 @@ pub fn find_defects(window: Window, threshold: u64, out_mask: &mut Lent<u8>) -> 
             out_mask.address(),
             out_mask.len(),
             &mut place,
+            &mut over,
             &mut count,
         )
     };
     Answer {
         number,
         place,
+        over,
         figures: vec![count.into()],
     }
 }
 
 pub fn repair(window: Window, out_frame: &mut Lent<u16>, out_mask: &mut Lent<u8>) -> Answer {
-    let (mut place, mut filled) = (GARBAGE, GARBAGE);
+    let (mut place, mut over, mut filled) = (GARBAGE, GARBAGE, GARBAGE);
     // SAFETY: each buffer is lent with its own length, and no two overlap.
     let number = unsafe {
         tip_repair(
@@ -78,12 +82,14 @@ pub fn repair(window: Window, out_frame: &mut Lent<u16>, out_mask: &mut Lent<u8>
             out_mask.address(),
             out_mask.len(),
             &mut place,
+            &mut over,
             &mut filled,
         )
     };
     Answer {
         number,
         place,
+        over,
         figures: vec![filled.into()],
     }
 }

@@ -1,6 +1,6 @@
 use reference::shared::Answer;
 
-use super::{Lent, GARBAGE};
+use super::{Lent, GARBAGE, NO_COUNT};
 
 extern "C" {
     fn tip_stack_add(
@@ -17,6 +17,7 @@ extern "C" {
         squares: *mut u32,
         squares_len: usize,
         place: *mut u64,
+        over: *mut u64,
         count: *mut u64,
     ) -> u64;
 
@@ -50,7 +51,7 @@ pub struct Stack<'a> {
 }
 
 pub fn stack_add(stack: Stack, frame: &mut Lent<u16>) -> Answer {
-    let (mut place, mut count) = (GARBAGE, GARBAGE);
+    let (mut place, mut over, mut count) = (GARBAGE, GARBAGE, GARBAGE);
     // SAFETY: each buffer is lent with its own length, and no two overlap.
     let number = unsafe {
         tip_stack_add(
@@ -67,12 +68,14 @@ pub fn stack_add(stack: Stack, frame: &mut Lent<u16>) -> Answer {
             stack.squares.address(),
             stack.squares.len(),
             &mut place,
+            &mut over,
             &mut count,
         )
     };
     Answer {
         number,
         place,
+        over,
         figures: vec![count.into()],
     }
 }
@@ -107,6 +110,7 @@ pub fn stack_variance(stack: Stack) -> Answer {
     Answer {
         number,
         place,
+        over: NO_COUNT,
         figures,
     }
 }

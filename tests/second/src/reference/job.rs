@@ -15,16 +15,22 @@ pub fn printed(input: &[u8]) -> String {
     let Answer {
         number,
         place,
+        over,
         figures,
     } = job(input);
-    if number != 0 {
-        return format!("refused {number} at {place}\n");
+    match number {
+        0 => four_lines(&figures),
+        6 => format!("refused 6 at {place} count {over}\n"),
+        _ => format!("refused {number} at {place}\n"),
     }
+}
+
+fn four_lines(figures: &[i128]) -> String {
     let [sites, p, q, r, dark] = figures[..] else {
         unreachable!("a job has five figures");
     };
-    let over = 64 * sites;
-    format!("sites {sites}\nvariance {p}/{q}\nnoise {r}/{over}\ndark {dark}/{sites}\n")
+    let whole = 64 * sites;
+    format!("sites {sites}\nvariance {p}/{q}\nnoise {r}/{whole}\ndark {dark}/{sites}\n")
 }
 
 /// The input, and how far it has been read.
@@ -36,10 +42,7 @@ struct Stream<'a> {
 impl<'a> Stream<'a> {
     /// Refusals 20, 21 and 22, placed at the field's first byte; else the body.
     fn field(&mut self, tag: u8, length: usize) -> Result<&'a [u8], Refusal> {
-        let fault = |number| Refusal {
-            number,
-            place: self.offset as u64,
-        };
+        let fault = |number| Refusal::new(number, self.offset as u64);
         let left = &self.input[self.offset..];
         if left.is_empty() {
             return Err(fault(20));
@@ -80,10 +83,7 @@ fn run(input: &[u8]) -> Outcome {
     let second = unpacked(width, height, stream.field(7, sites * 5 / 4)?);
     stream.field(0, 0)?;
     if stream.offset < input.len() {
-        return Err(Refusal {
-            number: 23,
-            place: stream.offset as u64,
-        });
+        return Err(Refusal::new(23, stream.offset as u64));
     }
     let pair = accepted(pair_figures(&Pair {
         width,
@@ -122,6 +122,7 @@ fn accepted(answer: Answer) -> Outcome {
         return Err(Refusal {
             number: answer.number,
             place: answer.place,
+            over: answer.over,
         });
     }
     Ok(answer.figures)
@@ -145,11 +146,13 @@ mod tests {
         stream
     }
 
+    /// Number and place; a count stands at 6 alone.
     fn refused(stream: &[u8]) -> (u64, u64) {
         let answer = job(stream);
         if answer.number != 0 {
             assert_eq!(answer.figures, [0; 5]);
         }
+        assert_eq!(answer.over > 0, answer.number == 6);
         (answer.number, answer.place)
     }
 
@@ -206,7 +209,35 @@ mod tests {
             printed(&whole),
             "sites 4\nvariance 4/32\nnoise 90/256\ndark 150/4\n"
         );
-        assert_eq!(printed(&k1(103, 64, [0; 4])), "refused 6 at 3\n");
+        assert_eq!(printed(&k1(103, 64, [0; 4])), "refused 6 at 3 count 1\n");
+        assert_eq!(printed(&k1(103, 64, [0, 0, 4, 0])), "refused 5 at 2\n");
+        assert_eq!(printed(&k1(1023, 1024, [0; 4])), "refused 3 at 0\n");
+    }
+
+    /// Request d: K1 has 100 101 102 103 and 101 101 102 104. Tells a count of the first frame alone.
+    #[test]
+    fn the_count_is_that_of_the_pair() {
+        let over = |full_scale, mask| job(&k1(full_scale, 64, mask)).over;
+        assert_eq!(over(104, [0; 4]), 0);
+        assert_eq!(over(103, [0; 4]), 1);
+        assert_eq!(over(102, [0; 4]), 2);
+        assert_eq!(over(101, [0; 4]), 4);
+        assert_eq!(over(100, [0; 4]), 7);
+        assert_eq!(over(100, [0, 0, 0, 1]), 5);
+        let printed = printed(&k1(100, 64, [0, 1, 0, 0]));
+        assert_eq!(printed, "refused 6 at 2 count 5\n");
+    }
+
+    /// Tells a count in a stream that no library call is asked of, or that is refused before 6.
+    #[test]
+    fn no_count_beside_another_refusal() {
+        let whole = k1(100, 64, [0; 4]);
+        let mut extra = whole.clone();
+        extra.push(0);
+        assert_eq!(refused(&extra), (23, 46));
+        assert_eq!(refused(&whole[..45]), (20, 43));
+        assert_eq!(refused(&k1(0, 64, [0; 4])), (2, 0));
+        assert_eq!(refused(&k1(100, 64, [0, 0, 0, 4])), (5, 3));
     }
 
     /// R33.

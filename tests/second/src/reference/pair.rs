@@ -40,8 +40,7 @@ fn survey(pair: &Pair) -> Result<(i128, i128), Refusal> {
         (pair.second.len(), sites),
     ])?;
     check_codes(pair.mask)?;
-    check_samples(pair.mask, pair.first, pair.full_scale)?;
-    check_samples(pair.mask, pair.second, pair.full_scale)?;
+    check_samples(pair.mask, &[pair.first, pair.second], pair.full_scale)?;
     let (mut n, mut sum, mut squares) = (0, 0, 0);
     for site in surveyed(pair.mask) {
         let difference = i128::from(pair.second[site]) - i128::from(pair.first[site]);
@@ -98,19 +97,16 @@ mod tests {
     fn accepted(whole: [i128; 4], floats: [f64; 2]) -> Answer {
         let mut figures = whole.to_vec();
         figures.extend(floats.map(|float| i128::from(float.to_bits())));
-        Answer {
-            number: 0,
-            place: 0,
-            figures,
-        }
+        settle(Ok(figures), 6)
     }
 
-    fn refused(number: u64, place: u64) -> Answer {
-        Answer {
+    fn refused(number: u64, place: u64, over: u64) -> Answer {
+        let refusal = Refusal {
             number,
             place,
-            figures: vec![0; 6],
-        }
+            over,
+        };
+        settle(Err(refusal), 6)
     }
 
     /// Tells variance and noise exchanged, and n in r's place.
@@ -159,12 +155,13 @@ mod tests {
         assert_eq!(root(2047 * 2), 63);
     }
 
-    /// Tells the second frame judged before the first, and both judged site by site: place 0.
+    /// Tells the second frame judged before the first, and both judged site by site: place 0. And in
+    /// both frames a count of the sites up to the place, or from it on: 2.
     #[test]
     fn the_first_frame_is_judged_before_the_second() {
-        let mut pair = of_frames(&[0, 0, 0, 11], &[11, 0, 0, 0]);
+        let mut pair = of_frames(&[0, 0, 11, 0], &[11, 0, 0, 11]);
         pair.full_scale = 10;
-        assert_eq!(pair_figures(&pair), refused(6, 3));
+        assert_eq!(pair_figures(&pair), refused(6, 2, 3));
     }
 
     /// Tells a refusal that leaves figures, here K1's.
@@ -172,7 +169,26 @@ mod tests {
     fn a_refusal_has_six_zeros() {
         let mut pair = of_frames(&[100, 101, 102, 103], &[101, 101, 102, 104]);
         pair.full_scale = 103;
-        assert_eq!(pair_figures(&pair), refused(6, 3));
+        assert_eq!(pair_figures(&pair), refused(6, 3, 1));
+    }
+
+    /// Request d. Tells a count of the first frame alone (1), of the second alone (2), with the gap
+    /// (5), and with full scale itself (4).
+    #[test]
+    fn samples_over_in_both_frames() {
+        let mut pair = of_frames(&[1024, 65535, 100, 1023], &[100, 65535, 2000, 65535]);
+        pair.mask = &[0, 1, 0, 0];
+        assert_eq!(pair_figures(&pair), refused(6, 0, 3));
+        (pair.first, pair.second) = (pair.second, pair.first);
+        assert_eq!(pair_figures(&pair), refused(6, 2, 3));
+    }
+
+    /// Tells a count of sites (2), and of buffers looked at once.
+    #[test]
+    fn one_buffer_given_twice_is_two_frames() {
+        let mut pair = of_frames(&[11, 0, 10, 11], &[]);
+        (pair.full_scale, pair.second) = (10, pair.first);
+        assert_eq!(pair_figures(&pair), refused(6, 0, 4));
     }
 
     /// Tells one surveyed site measured (n 1, P 0, Q 2, r 0), and two refused.
@@ -185,7 +201,7 @@ mod tests {
             accepted([2, 4, 8, 90], [0.5, 90.0 / 128.0])
         );
         pair.mask = &[0, 3, 1, 2];
-        assert_eq!(pair_figures(&pair), refused(7, 0));
+        assert_eq!(pair_figures(&pair), refused(7, 0, 0));
     }
 
     /// Tells refusals in another order: all apply at first, and each turn mends the one given.
@@ -199,23 +215,23 @@ mod tests {
             first: &[11; 3],
             second: &[11; 5],
         };
-        assert_eq!(pair_figures(&pair), refused(1, 0));
+        assert_eq!(pair_figures(&pair), refused(1, 0, 0));
         pair.width = 2;
-        assert_eq!(pair_figures(&pair), refused(2, 0));
+        assert_eq!(pair_figures(&pair), refused(2, 0, 0));
         pair.full_scale = 10;
-        assert_eq!(pair_figures(&pair), refused(4, 0));
+        assert_eq!(pair_figures(&pair), refused(4, 0, 0));
         pair.mask = &[1, 0, 4, 1];
-        assert_eq!(pair_figures(&pair), refused(4, 0));
+        assert_eq!(pair_figures(&pair), refused(4, 0, 0));
         pair.first = &[11; 4];
-        assert_eq!(pair_figures(&pair), refused(4, 0));
+        assert_eq!(pair_figures(&pair), refused(4, 0, 0));
         pair.second = &[11; 4];
-        assert_eq!(pair_figures(&pair), refused(5, 2));
+        assert_eq!(pair_figures(&pair), refused(5, 2, 0));
         pair.mask = &[1, 0, 3, 1];
-        assert_eq!(pair_figures(&pair), refused(6, 1));
+        assert_eq!(pair_figures(&pair), refused(6, 1, 2));
         pair.first = &[10; 4];
-        assert_eq!(pair_figures(&pair), refused(6, 1));
+        assert_eq!(pair_figures(&pair), refused(6, 1, 1));
         pair.second = &[10; 4];
-        assert_eq!(pair_figures(&pair), refused(7, 0));
+        assert_eq!(pair_figures(&pair), refused(7, 0, 0));
         pair.mask = &[1, 0, 0, 1];
         assert_eq!(pair_figures(&pair), accepted([2, 0, 8, 0], [0.0, 0.0]));
     }

@@ -3,7 +3,7 @@
 
 use std::cmp::Ordering;
 
-use crate::shared::{Answer, Answers};
+use crate::shared::{keep, Answer, Answers, Law};
 
 /// The figures of an accepted pair.
 struct Figures {
@@ -57,23 +57,12 @@ pub fn relation(one: &Answer, other: &Answer) -> &'static str {
     }
 }
 
-/// Ok where a law is kept, else what is broken.
-pub type Law = Result<(), &'static str>;
-
 const VARIANCE: &str = "the variance figures are not in the order of the exact variances";
 const NOISE: &str = "the noise figures are not in the order of the exact variances";
 const EQUAL: &str = "the exact variances and n are equal, and the answers are not";
 const ACCEPTED: &str = "with the frames swapped one is accepted and the other is not";
 const SWAPPED: &str = "with the frames swapped both are accepted, and the answers are not equal";
 const SHIFTED: &str = "with a constant added the answer is not that of the accepted pair";
-
-fn keep(kept: bool, law: &'static str) -> Law {
-    if kept {
-        Ok(())
-    } else {
-        Err(law)
-    }
-}
 
 /// Of two accepted pairs, the one with the lesser exact variance has the lesser figures, or the
 /// same; where the exact variances are equal so are the figures. The noise is bound to this at
@@ -122,7 +111,7 @@ mod tests {
     use super::*;
     use crate::float::rounded_quotient;
     use crate::pair::{pair_figures, root, Pair};
-    use crate::shared::{check_samples, settle, surveyed};
+    use crate::shared::{check_samples, settle, surveyed, Refusal};
 
     type Program = fn(&Pair) -> Answer;
 
@@ -260,7 +249,7 @@ mod tests {
     }
 
     fn first_frame_judged_alone(pair: &Pair) -> Answer {
-        match check_samples(pair.mask, pair.first, pair.full_scale) {
+        match check_samples(pair.mask, &[pair.first], pair.full_scale) {
             Err(refusal) => settle(Err(refusal), 6),
             Ok(()) => pair_figures(&Pair {
                 full_scale: 4095,
@@ -283,12 +272,10 @@ mod tests {
     }
 
     fn gaps_judged(pair: &Pair) -> Answer {
-        for frame in [pair.first, pair.second] {
-            if let Err(refusal) = check_samples(ALL, frame, pair.full_scale) {
-                return settle(Err(refusal), 6);
-            }
+        match check_samples(ALL, &[pair.first, pair.second], pair.full_scale) {
+            Err(refusal) => settle(Err(refusal), 6),
+            Ok(()) => pair_figures(pair),
         }
-        pair_figures(pair)
     }
 
     /// Tells 2048 x P taken modulo 2^32 before the root: P are 1448^2 and 1449^2, and the second
@@ -407,11 +394,7 @@ mod tests {
     fn a_refused_pair_has_no_rank() {
         let lesser = answers(pair_figures, &of_one_difference(&[0, 1, 0, 0]));
         let mut greater = answers(pair_figures, &of_one_difference(&[0, 2, 0, 0]));
-        greater.found = Answer {
-            number: 7,
-            place: 0,
-            figures: vec![0; 6],
-        };
+        greater.found = settle(Err(Refusal::new(7, 0)), 6);
         assert_eq!(ranked(&lesser, &greater), Ok(()));
         greater.found.number = 0;
         assert_eq!(ranked(&lesser, &greater), Err(VARIANCE));

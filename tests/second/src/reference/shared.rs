@@ -1,10 +1,12 @@
 //! What the calls share: the answer, the refusals and the sides.
 
-/// Number and place are 0 where the call is accepted; a float stands as its bits.
+/// Number, place and count are 0 where the call is accepted; a float stands as its bits.
 #[derive(Clone, Debug, PartialEq, Eq)]
 pub struct Answer {
     pub number: u64,
     pub place: u64,
+    /// At 6 the samples over (document 02, d), 0 at any other number.
+    pub over: u64,
     pub figures: Vec<i128>,
 }
 
@@ -19,11 +21,23 @@ pub struct Answers {
 pub struct Refusal {
     pub number: u64,
     pub place: u64,
+    pub over: u64,
+}
+
+impl Refusal {
+    /// Any refusal but 6, which alone has a count.
+    pub fn new(number: u64, place: u64) -> Self {
+        Refusal {
+            number,
+            place,
+            over: 0,
+        }
+    }
 }
 
 pub type Outcome = Result<Vec<i128>, Refusal>;
 
-/// A refusal leaves every other number of the answer at 0.
+/// A refusal leaves every figure of the answer at 0.
 pub fn settle(outcome: Outcome, figures: usize) -> Answer {
     match outcome {
         Ok(found) => {
@@ -31,12 +45,14 @@ pub fn settle(outcome: Outcome, figures: usize) -> Answer {
             Answer {
                 number: 0,
                 place: 0,
+                over: 0,
                 figures: found,
             }
         }
         Err(refusal) => Answer {
             number: refusal.number,
             place: refusal.place,
+            over: refusal.over,
             figures: vec![0; figures],
         },
     }
@@ -45,9 +61,20 @@ pub fn settle(outcome: Outcome, figures: usize) -> Answer {
 /// Refuses with `number` at place 0 when `applies`.
 pub fn refuse_if(applies: bool, number: u64) -> Result<(), Refusal> {
     if applies {
-        return Err(Refusal { number, place: 0 });
+        return Err(Refusal::new(number, 0));
     }
     Ok(())
+}
+
+/// Ok where a law of two answers is kept, else what is broken.
+pub type Law = Result<(), &'static str>;
+
+pub fn keep(kept: bool, law: &'static str) -> Law {
+    if kept {
+        Ok(())
+    } else {
+        Err(law)
+    }
 }
 
 fn side_is_legal(side: usize) -> bool {
@@ -74,26 +101,39 @@ pub fn check_full_scale(full_scale: u64) -> Result<(), Refusal> {
 pub fn check_codes(mask: &[u8]) -> Result<(), Refusal> {
     for (site, &code) in mask.iter().enumerate() {
         if code > 3 {
-            return Err(Refusal {
-                number: 5,
-                place: site as u64,
-            });
+            return Err(Refusal::new(5, site as u64));
         }
     }
     Ok(())
 }
 
-/// Refusal 6, at the first surveyed sample above full scale.
-pub fn check_samples(mask: &[u8], frame: &[u16], full_scale: u64) -> Result<(), Refusal> {
-    for site in surveyed(mask) {
-        if u64::from(frame[site]) > full_scale {
-            return Err(Refusal {
-                number: 6,
-                place: site as u64,
-            });
+/// Refusal 6, at the first surveyed sample above full scale, all of a frame before the next frame.
+pub fn check_samples(mask: &[u8], frames: &[&[u16]], full_scale: u64) -> Result<(), Refusal> {
+    for frame in frames {
+        for site in surveyed(mask) {
+            if u64::from(frame[site]) > full_scale {
+                return Err(Refusal {
+                    number: 6,
+                    place: site as u64,
+                    over: count_over(mask, frames, full_scale),
+                });
+            }
         }
     }
     Ok(())
+}
+
+/// The surveyed samples above full scale, over all frames of the call.
+fn count_over(mask: &[u8], frames: &[&[u16]], full_scale: u64) -> u64 {
+    let mut over = 0;
+    for frame in frames {
+        for site in surveyed(mask) {
+            if u64::from(frame[site]) > full_scale {
+                over += 1;
+            }
+        }
+    }
+    over
 }
 
 /// What every call on one frame is lent.
@@ -120,7 +160,7 @@ impl Window<'_> {
         check_lengths(&[(self.mask.len(), sites), (self.frame.len(), sites)])?;
         check_lengths(others)?;
         check_codes(self.mask)?;
-        check_samples(self.mask, self.frame, self.full_scale)
+        check_samples(self.mask, &[self.frame], self.full_scale)
     }
 }
 
@@ -151,40 +191,33 @@ mod tests {
             usize::MAX - 1,
             usize::MAX,
         ] {
-            assert_eq!(
-                sites_of(side, 2),
-                Err(Refusal {
-                    number: 1,
-                    place: 0
-                })
-            );
-            assert_eq!(
-                sites_of(2, side),
-                Err(Refusal {
-                    number: 1,
-                    place: 0
-                })
-            );
+            assert_eq!(sites_of(side, 2), Err(Refusal::new(1, 0)));
+            assert_eq!(sites_of(2, side), Err(Refusal::new(1, 0)));
+        }
+    }
+
+    /// A 6 at this place, with so many samples over.
+    fn six(place: u64, over: u64) -> Refusal {
+        Refusal {
+            number: 6,
+            place,
+            over,
         }
     }
 
     #[test]
     fn a_refusal_leaves_zeros() {
-        let refused = settle(
-            Err(Refusal {
-                number: 6,
-                place: 3,
-            }),
-            2,
-        );
-        assert_eq!(
-            refused,
-            Answer {
-                number: 6,
-                place: 3,
-                figures: vec![0, 0]
-            }
-        );
+        for (refusal, number, over) in [(Refusal::new(5, 3), 5, 0), (six(3, 9), 6, 9)] {
+            assert_eq!(
+                settle(Err(refusal), 2),
+                Answer {
+                    number,
+                    place: 3,
+                    over,
+                    figures: vec![0, 0]
+                }
+            );
+        }
     }
 
     #[test]
@@ -193,37 +226,44 @@ mod tests {
             assert_eq!(check_full_scale(full_scale), Ok(()));
         }
         for full_scale in [0, 4096, u64::MAX] {
-            assert_eq!(
-                check_full_scale(full_scale),
-                Err(Refusal {
-                    number: 2,
-                    place: 0
-                })
-            );
+            assert_eq!(check_full_scale(full_scale), Err(Refusal::new(2, 0)));
         }
     }
 
     #[test]
     fn only_surveyed_samples_are_judged() {
         let mask = [1, 0, 3, 0];
+        let checked = |frame: &[u16]| check_samples(&mask, &[frame], 1023);
+        assert_eq!(checked(&[65535, 1023, 65535, 1023]), Ok(()));
+        assert_eq!(checked(&[65535, 1023, 65535, 1024]), Err(six(3, 1)));
+        assert_eq!(check_codes(&[3, 0, 4, 255]), Err(Refusal::new(5, 2)));
+    }
+
+    /// Tells a count of 1, of the first frame alone (1), of the second alone (2), with the gap (5),
+    /// with full scale itself (4), and up to the place (1).
+    #[test]
+    fn samples_over_are_counted_in_all_frames() {
+        let first: &[u16] = &[1024, 65535, 100, 1023];
+        let second: &[u16] = &[100, 65535, 2000, 65535];
+        let mask = [0, 1, 0, 0];
+        assert_eq!(check_samples(&mask, &[first, second], 1023), Err(six(0, 3)));
+        assert_eq!(check_samples(&mask, &[second, first], 1023), Err(six(2, 3)));
+        assert_eq!(check_samples(&mask, &[first], 1023), Err(six(0, 1)));
+        assert_eq!(check_samples(&mask, &[second], 1023), Err(six(2, 2)));
         assert_eq!(
-            check_samples(&mask, &[65535, 1023, 65535, 1023], 1023),
-            Ok(())
+            check_samples(&mask, &[second, second], 1023),
+            Err(six(2, 4))
         );
-        let above = check_samples(&mask, &[65535, 1023, 65535, 1024], 1023);
+    }
+
+    /// Tells counts in 8, 14 or 15 bits, which are 0 here.
+    #[test]
+    fn every_sample_may_be_over() {
+        let (mask, frame) = ([0; 16384], [2; 16384]);
+        assert_eq!(check_samples(&mask, &[&frame], 1), Err(six(0, 16384)));
         assert_eq!(
-            above,
-            Err(Refusal {
-                number: 6,
-                place: 3
-            })
-        );
-        assert_eq!(
-            check_codes(&[3, 0, 4, 255]),
-            Err(Refusal {
-                number: 5,
-                place: 2
-            })
+            check_samples(&mask, &[&frame, &frame], 1),
+            Err(six(0, 32768))
         );
     }
 }

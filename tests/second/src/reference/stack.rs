@@ -175,14 +175,7 @@ mod tests {
         assert_eq!(added(0, 10, 0).figures, [1]);
         assert_eq!(added(0, 10, 1).number, 11);
         assert_eq!(added(99, 10, 0).figures, [100]);
-        assert_eq!(
-            added(100, 10, 0),
-            Answer {
-                number: 12,
-                place: 0,
-                figures: vec![0]
-            }
-        );
+        assert_eq!(added(100, 10, 0), settle(Err(Refusal::new(12, 0)), 1));
         assert_eq!(added(100, 11, 0).number, 6);
         assert_eq!(added(100, 10, 10_001).number, 11);
         assert_eq!(added(101, 11, 10_001).number, 3);
