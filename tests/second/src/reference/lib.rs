@@ -2,6 +2,7 @@
 //! Each call takes the lent buffers, changes those it writes, and gives its answer.
 
 pub mod colour;
+pub mod counts;
 pub mod dark;
 pub mod float;
 pub mod job;
