@@ -68,12 +68,13 @@ fn missing(call: &Call, tally: &Tally) -> Vec<String> {
         .iter()
         .filter(|number| !tally.numbers.contains_key(number))
         .map(|number| format!("number {number} was not reached"));
-    let relations = call
-        .relations
+    let kinds = call
+        .kinds
         .iter()
-        .filter(|relation| !tally.relations.contains_key(*relation))
-        .map(|relation| format!("no two cases were {relation}"));
-    numbers.chain(relations).collect()
+        .flat_map(|kinds| kinds.iter())
+        .filter(|kind| !tally.kinds.contains_key(**kind))
+        .map(|kind| format!("no case of the kind '{kind}' was met"));
+    numbers.chain(kinds).collect()
 }
 
 fn print(call: &Call, tally: &Tally, missing: &[String]) {
@@ -90,13 +91,13 @@ fn print(call: &Call, tally: &Tally, missing: &[String]) {
         call.name,
         refused.join(" ")
     );
-    if !tally.relations.is_empty() {
-        let relations: Vec<String> = tally
-            .relations
+    if !tally.kinds.is_empty() {
+        let kinds: Vec<String> = tally
+            .kinds
             .iter()
-            .map(|(relation, times)| format!("{relation} {times}"))
+            .map(|(kind, times)| format!("{kind}:{times}"))
             .collect();
-        println!("  two cases: {}", relations.join(", "));
+        println!("  kinds: {}", kinds.join(", "));
     }
     for line in missing {
         println!("  {line}");

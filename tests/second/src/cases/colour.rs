@@ -1,8 +1,10 @@
 //! Cases of the colour ratios.
 
 use reference::colour;
+use reference::counts::Exposure;
 use reference::shared::Answer;
 
+use super::counts::{self, Exposed};
 use super::dice::Dice;
 use super::shapes::{self, Shape};
 use super::spoil;
@@ -24,6 +26,16 @@ impl Case for Ratios {
 
     fn library(&mut self) -> Answer {
         library::colour::colour_ratios(self.window.lend(), self.black_level, self.bayer_order)
+    }
+}
+
+impl Exposed for Ratios {
+    fn exposure(&self) -> Exposure<'_> {
+        self.window.exposure()
+    }
+
+    fn lent(&mut self, _: usize) -> (&mut [u8], &mut [u16]) {
+        self.window.mask_and_frame()
     }
 }
 
@@ -103,6 +115,14 @@ pub fn colour_ratios(tally: &mut Tally, dice: &mut Dice) {
     for _ in 0..60 {
         tally.run(legal(dice));
     }
+}
+
+pub fn counts(tally: &mut Tally, dice: &mut Dice) {
+    let make = |shape, mask, dice: &mut Dice| {
+        let window = Window::of_mask(shape, mask, dice);
+        of_window(window, dice)
+    };
+    counts::common(tally, dice, LEAST, make, SPOILERS);
 }
 
 const SPOILERS: &[spoil::Spoiler<Ratios>] = &[

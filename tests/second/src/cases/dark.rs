@@ -1,8 +1,10 @@
 //! Cases of the dark level.
 
+use reference::counts::Exposure;
 use reference::dark;
 use reference::shared::Answer;
 
+use super::counts::{self, Exposed};
 use super::dice::Dice;
 use super::shapes::{self, Shape};
 use super::spoil;
@@ -23,6 +25,16 @@ impl Case for Dark {
 
     fn library(&mut self) -> Answer {
         library::dark::dark_level(self.window.lend(), self.black_level)
+    }
+}
+
+impl Exposed for Dark {
+    fn exposure(&self) -> Exposure<'_> {
+        self.window.exposure()
+    }
+
+    fn lent(&mut self, _: usize) -> (&mut [u8], &mut [u16]) {
+        self.window.mask_and_frame()
     }
 }
 
@@ -54,6 +66,14 @@ pub fn dark_level(tally: &mut Tally, dice: &mut Dice) {
     for _ in 0..80 {
         tally.run(legal(dice));
     }
+}
+
+pub fn counts(tally: &mut Tally, dice: &mut Dice) {
+    let make = |shape, mask, dice: &mut Dice| {
+        let window = Window::of_mask(shape, mask, dice);
+        of_window(window, dice)
+    };
+    counts::common(tally, dice, shapes::SQUARE, make, SPOILERS);
 }
 
 const SPOILERS: &[spoil::Spoiler<Dark>] = &[

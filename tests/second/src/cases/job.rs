@@ -1,8 +1,12 @@
 //! Cases of the job: streams, whole and damaged.
 
+use std::fmt::{Debug, Formatter, Result};
+
+use reference::counts::Exposure;
 use reference::job;
 use reference::shared::Answer;
 
+use super::counts::{self, Exposed};
 use super::dice::Dice;
 use super::raw::packed;
 use super::shapes::{self, Shape};
@@ -26,6 +30,14 @@ impl Case for Job {
     }
 }
 
+impl Job {
+    fn of(stream: Vec<u8>) -> Self {
+        Job {
+            input: Lent::new("input", stream),
+        }
+    }
+}
+
 #[derive(Clone)]
 struct Field {
     tag: u8,
@@ -44,7 +56,7 @@ impl Field {
 }
 
 /// What a stream says, before it is damaged.
-#[derive(Clone)]
+#[derive(Clone, PartialEq)]
 struct Sheet {
     width: u16,
     height: u16,
@@ -77,6 +89,46 @@ impl Sheet {
     }
 }
 
+/// The job of the sheet's stream.
+impl Case for Sheet {
+    fn reference(&mut self) -> Answer {
+        Job::of(self.stream()).reference()
+    }
+
+    fn library(&mut self) -> Answer {
+        Job::of(self.stream()).library()
+    }
+}
+
+impl Debug for Sheet {
+    fn fmt(&self, to: &mut Formatter) -> Result {
+        Job::of(self.stream()).fmt(to)
+    }
+}
+
+impl Exposed for Sheet {
+    const FRAMES: usize = 2;
+    const SIDE: usize = 64;
+    const MOST: u16 = 1023;
+
+    fn exposure(&self) -> Exposure<'_> {
+        Exposure {
+            width: self.width.into(),
+            full_scale: self.full_scale.into(),
+            mask: &self.mask,
+            frames: vec![&self.first, &self.second],
+        }
+    }
+
+    fn lent(&mut self, turn: usize) -> (&mut [u8], &mut [u16]) {
+        let frame = match turn {
+            0 => &mut self.first,
+            _ => &mut self.second,
+        };
+        (&mut self.mask, frame)
+    }
+}
+
 fn joined(fields: &[Field]) -> Vec<u8> {
     let mut stream = vec![];
     for field in fields {
@@ -88,9 +140,7 @@ fn joined(fields: &[Field]) -> Vec<u8> {
 }
 
 fn run(stream: Vec<u8>, tally: &mut Tally) {
-    tally.run(Job {
-        input: Lent::new("input", stream),
-    });
+    tally.run(Job::of(stream));
 }
 
 /// Ten bits at most, surveyed samples up to full scale.
@@ -101,6 +151,17 @@ fn frame(mask: &[u8], full_scale: u16, dice: &mut Dice) -> Vec<u16> {
 
 fn of_mask(shape: Shape, mask: Vec<u8>, dice: &mut Dice) -> Sheet {
     let full_scale = windows::full_scale(dice) as u16;
+    of_scale(shape, mask, full_scale, dice)
+}
+
+/// A full scale that ten bits can exceed.
+fn of_low_scale(shape: Shape, mask: Vec<u8>, dice: &mut Dice) -> Sheet {
+    let any = dice.between(1, 1022) as u16;
+    let full_scale = dice.among(&[1, any, 1022]);
+    of_scale(shape, mask, full_scale, dice)
+}
+
+fn of_scale(shape: Shape, mask: Vec<u8>, full_scale: u16, dice: &mut Dice) -> Sheet {
     let any = dice.between(0, full_scale.into()) as u16;
     Sheet {
         width: shape.width as u16,
@@ -136,14 +197,24 @@ fn k1() -> Sheet {
     }
 }
 
-/// A stream of a small window, whole one time in four.
+/// A stream of a small window: whole one time in four, or whole with samples over, else damaged.
 pub fn damaged_stream(dice: &mut Dice) -> Vec<u8> {
-    let stream = legal(dice).stream();
-    if dice.one_in(4) {
-        stream
-    } else {
-        damaged(stream, dice)
+    match dice.below(4) {
+        0 => legal(dice).stream(),
+        1 => with_samples_over(dice).stream(),
+        _ => damaged(legal(dice).stream(), dice),
     }
+}
+
+/// In the first frame, in the second or in both.
+fn with_samples_over(dice: &mut Dice) -> Sheet {
+    let shape = shapes::legal(dice);
+    let mask = windows::mask(shape.sites(), dice);
+    let mut sheet = of_low_scale(shape, mask, dice);
+    for turn in dice.among(&[[0, 0], [1, 1], [0, 1]]) {
+        counts::expose(&mut sheet, turn, 4, dice);
+    }
+    sheet
 }
 
 pub fn job(tally: &mut Tally, dice: &mut Dice) {
@@ -165,6 +236,40 @@ pub fn job(tally: &mut Tally, dice: &mut Dice) {
         };
         run(of_shape(shape, dice).stream(), tally);
         run(damaged(of_shape(shape, dice).stream(), dice), tally);
+    }
+}
+
+pub fn counts(tally: &mut Tally, dice: &mut Dice) {
+    counts::common(tally, dice, shapes::SQUARE, of_low_scale, SPOILERS);
+    no_count_before_the_pair(tally, dice);
+}
+
+/// Samples over in streams with a fault after the frames, and beside sides and a full scale that
+/// are refused.
+fn no_count_before_the_pair(tally: &mut Tally, dice: &mut Dice) {
+    for end in [
+        &[][..],
+        &[0],
+        &[0, 0],
+        &[1, 0, 0],
+        &[0, 0, 1],
+        &[0, 0, 0, 0],
+    ] {
+        let sheet = with_samples_over(dice);
+        let mut stream = joined(&sheet.fields()[..7]);
+        stream.extend(end);
+        let asked = tally.ask(Job::of(stream));
+        counts::meet(tally, &sheet.exposure(), &asked.answers.expected);
+    }
+    let refused_before: [fn(&mut Sheet); 3] = [
+        |sheet| sheet.width = 3,
+        |sheet| sheet.height = 66,
+        |sheet| sheet.full_scale = 0,
+    ];
+    for spoil in refused_before {
+        let mut sheet = with_samples_over(dice);
+        spoil(&mut sheet);
+        counts::ask(tally, sheet);
     }
 }
 
@@ -375,25 +480,26 @@ fn extra_bytes(tally: &mut Tally, dice: &mut Dice) {
     );
 }
 
+const SPOILERS: &[spoil::Spoiler<Sheet>] = &[
+    |sheet, dice| sheet.mask = windows::mask_surveying(dice.below(2), sheet.mask.len(), dice),
+    |sheet, dice| above(&mut sheet.mask, &mut sheet.first, sheet.full_scale, dice),
+    |sheet, dice| above(&mut sheet.mask, &mut sheet.second, sheet.full_scale, dice),
+    |sheet, dice| spoil::code(&mut sheet.mask, dice),
+    |sheet, _| sheet.black_level = sheet.full_scale + 1,
+    |sheet, dice| sheet.full_scale = dice.among(&[0, 4096, 5000, 65535]),
+    |sheet, dice| sheet.extra = vec![dice.draw() as u8],
+    |sheet, dice| sheet.width = dice.among(&[0, 1, 3, 65, 66, 128, 130, 65535]),
+];
+
 /// Every set of the library's refusals with extra bytes and odd sides.
 fn refusals_together(tally: &mut Tally, dice: &mut Dice) {
-    let spoilers: [fn(&mut Sheet, &mut Dice); 8] = [
-        |sheet, dice| sheet.mask = windows::mask_surveying(dice.below(2), sheet.mask.len(), dice),
-        |sheet, dice| above(&mut sheet.mask, &mut sheet.first, sheet.full_scale, dice),
-        |sheet, dice| above(&mut sheet.mask, &mut sheet.second, sheet.full_scale, dice),
-        |sheet, dice| spoil::code(&mut sheet.mask, dice),
-        |sheet, _| sheet.black_level = sheet.full_scale + 1,
-        |sheet, dice| sheet.full_scale = dice.among(&[0, 4096, 5000, 65535]),
-        |sheet, dice| sheet.extra = vec![dice.draw() as u8],
-        |sheet, dice| sheet.width = dice.among(&[0, 1, 3, 65, 66, 128, 130, 65535]),
-    ];
-    for set in 0..1u32 << spoilers.len() {
+    for set in 0..1u32 << SPOILERS.len() {
         let mut sheet = legal(dice);
         sheet.full_scale = dice.among(&[1, 500, 1022]);
         sheet.black_level = dice.between(0, sheet.full_scale.into()) as u16;
         sheet.first = frame(&sheet.mask, sheet.full_scale, dice);
         sheet.second = frame(&sheet.mask, sheet.full_scale, dice);
-        for (at, spoil) in spoilers.iter().enumerate() {
+        for (at, spoil) in SPOILERS.iter().enumerate() {
             if set >> at & 1 == 1 {
                 spoil(&mut sheet, dice);
             }

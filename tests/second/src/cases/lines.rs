@@ -1,8 +1,10 @@
 //! Cases of defective rows and columns; both run the same ones, turned.
 
+use reference::counts::Exposure;
 use reference::lines;
 use reference::shared::Answer;
 
+use super::counts::{self, Exposed};
 use super::dice::Dice;
 use super::shapes::{self, Shape};
 use super::spoil;
@@ -37,6 +39,16 @@ impl Case for Lines {
             Kind::Rows => library::lines::defective_rows(window, &mut self.marks),
             Kind::Columns => library::lines::defective_columns(window, &mut self.marks),
         }
+    }
+}
+
+impl Exposed for Lines {
+    fn exposure(&self) -> Exposure<'_> {
+        self.window.exposure()
+    }
+
+    fn lent(&mut self, _: usize) -> (&mut [u8], &mut [u16]) {
+        self.window.mask_and_frame()
     }
 }
 
@@ -76,6 +88,22 @@ pub fn defective_rows(tally: &mut Tally, dice: &mut Dice) {
 
 pub fn defective_columns(tally: &mut Tally, dice: &mut Dice) {
     round(Kind::Columns, tally, dice);
+}
+
+pub fn counts_of_rows(tally: &mut Tally, dice: &mut Dice) {
+    counts_of(Kind::Rows, tally, dice);
+}
+
+pub fn counts_of_columns(tally: &mut Tally, dice: &mut Dice) {
+    counts_of(Kind::Columns, tally, dice);
+}
+
+fn counts_of(kind: Kind, tally: &mut Tally, dice: &mut Dice) {
+    let make = |shape, mask, dice: &mut Dice| {
+        let window = Window::of_mask(shape, mask, dice);
+        of_window(kind, window, dice)
+    };
+    counts::common(tally, dice, kind.shape(18, 4), make, SPOILERS);
 }
 
 fn of_window(kind: Kind, window: Window, dice: &mut Dice) -> Lines {

@@ -1,6 +1,7 @@
 //! Seeded cases, one maker a call.
 
 mod colour;
+mod counts;
 mod dark;
 mod dice;
 mod job;
@@ -25,8 +26,8 @@ pub struct Call {
     pub name: &'static str,
     /// The numbers that each run has to reach, 0 being an accepted call.
     pub required: &'static [u64],
-    /// The relations of two cases that each run has to reach.
-    pub relations: &'static [&'static str],
+    /// Lists of the kinds of cases that each run has to meet besides.
+    pub kinds: &'static [&'static [&'static str]],
     pub round: fn(&mut Tally, &mut Dice),
 }
 
@@ -34,19 +35,19 @@ pub const CALLS: &[Call] = &[
     Call {
         name: "unpack_raw10",
         required: &[0, 1, 4],
-        relations: &[],
+        kinds: &[],
         round: raw::unpack_raw10,
     },
     Call {
         name: "pair_figures",
         required: &[0, 1, 2, 4, 5, 6, 7],
-        relations: &[],
+        kinds: &[],
         round: pair::pair_figures,
     },
     Call {
         name: "ranking of pair_figures",
         required: &[0, 1, 2, 4, 5, 6, 7],
-        relations: &[
+        kinds: &[&[
             "equal",
             "equal at other n",
             "neighbours at even n",
@@ -59,73 +60,152 @@ pub const CALLS: &[Call] = &[
             "swapped",
             "swapped and refused",
             "swapped from one buffer",
-        ],
+        ]],
         round: ranking::ranking_of_pairs,
     },
     Call {
         name: "dark_level",
         required: &[0, 1, 2, 3, 4, 5, 6, 7],
-        relations: &[],
+        kinds: &[],
         round: dark::dark_level,
     },
     Call {
         name: "stack_add",
         required: &[0, 1, 2, 3, 4, 5, 6, 11, 12],
-        relations: &[],
+        kinds: &[],
         round: stack::stack_add,
     },
     Call {
         name: "stack_variance",
         required: &[0, 1, 2, 3, 4, 5, 7, 11],
-        relations: &[],
+        kinds: &[],
         round: stack::stack_variance,
     },
     Call {
         name: "pattern_vertical",
         required: &[0, 1, 2, 3, 4, 5, 8, 9, 11],
-        relations: &[],
+        kinds: &[],
         round: pattern::pattern_vertical,
     },
     Call {
         name: "pattern_horizontal",
         required: &[0, 1, 2, 3, 4, 5, 8, 9, 11],
-        relations: &[],
+        kinds: &[],
         round: pattern::pattern_horizontal,
     },
     Call {
         name: "find_defects",
         required: &[0, 1, 2, 3, 4, 5, 6],
-        relations: &[],
+        kinds: &[],
         round: sites::find_defects,
     },
     Call {
         name: "repair",
         required: &[0, 1, 2, 4, 5, 6],
-        relations: &[],
+        kinds: &[],
         round: sites::repair,
     },
     Call {
         name: "defective_rows",
         required: &[0, 1, 2, 4, 5, 6, 9],
-        relations: &[],
+        kinds: &[],
         round: lines::defective_rows,
     },
     Call {
         name: "defective_columns",
         required: &[0, 1, 2, 4, 5, 6, 9],
-        relations: &[],
+        kinds: &[],
         round: lines::defective_columns,
     },
     Call {
         name: "colour_ratios",
         required: &[0, 1, 2, 3, 4, 5, 6, 7, 9, 10],
-        relations: &[],
+        kinds: &[],
         round: colour::colour_ratios,
     },
     Call {
         name: "job",
         required: &[0, 1, 2, 3, 5, 6, 7, 20, 21, 22, 23, 24],
-        relations: &[],
+        kinds: &[],
         round: job::job,
+    },
+    Call {
+        name: "count of pair_figures",
+        required: &[0, 1, 2, 4, 5, 6, 7],
+        kinds: &[
+            counts::EVERY_CALL,
+            counts::WINDOWS,
+            counts::TWO_FRAMES,
+            &["in 15 bits", "before 7", "one buffer given twice"],
+        ],
+        round: pair::counts,
+    },
+    Call {
+        name: "count of dark_level",
+        required: &[0, 1, 2, 3, 4, 5, 6],
+        kinds: &[counts::EVERY_CALL, counts::WINDOWS, &["beside 3"]],
+        round: dark::counts,
+    },
+    Call {
+        name: "count of stack_add",
+        required: &[0, 1, 2, 3, 4, 5, 6, 11, 12],
+        kinds: &[
+            counts::EVERY_CALL,
+            counts::WINDOWS,
+            &["beside 3", "before 11", "before 12"],
+        ],
+        round: stack::counts_of_adding,
+    },
+    Call {
+        name: "count of find_defects",
+        required: &[0, 1, 2, 3, 4, 5, 6],
+        kinds: &[counts::EVERY_CALL, counts::WINDOWS, &["beside 3"]],
+        round: sites::counts_of_finding,
+    },
+    Call {
+        name: "count of repair",
+        required: &[0, 1, 2, 4, 5, 6],
+        kinds: &[counts::EVERY_CALL, counts::WINDOWS],
+        round: sites::counts_of_repair,
+    },
+    Call {
+        name: "count of defective_rows",
+        required: &[0, 1, 2, 4, 5, 6, 9],
+        kinds: &[counts::EVERY_CALL, counts::WINDOWS, &["before 9"]],
+        round: lines::counts_of_rows,
+    },
+    Call {
+        name: "count of defective_columns",
+        required: &[0, 1, 2, 4, 5, 6, 9],
+        kinds: &[counts::EVERY_CALL, counts::WINDOWS, &["before 9"]],
+        round: lines::counts_of_columns,
+    },
+    Call {
+        name: "count of colour_ratios",
+        required: &[0, 1, 2, 3, 4, 5, 6, 7, 9, 10],
+        kinds: &[
+            counts::EVERY_CALL,
+            counts::WINDOWS,
+            &["beside 3", "before 7", "before 9", "before 10"],
+        ],
+        round: colour::counts,
+    },
+    Call {
+        name: "count of job",
+        required: &[0, 1, 2, 3, 5, 6, 7, 20, 21, 22, 23, 24],
+        kinds: &[
+            counts::EVERY_CALL,
+            counts::TWO_FRAMES,
+            &[
+                "beside 20",
+                "beside 21",
+                "beside 22",
+                "beside 23",
+                "beside 24",
+                "before 3",
+                "before 7",
+            ],
+        ],
+        round: job::counts,
     },
 ];

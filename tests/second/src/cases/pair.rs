@@ -1,8 +1,10 @@
 //! Cases of the figures of a pair.
 
+use reference::counts::Exposure;
 use reference::pair;
 use reference::shared::Answer;
 
+use super::counts::{self, Exposed};
 use super::dice::Dice;
 use super::shapes::{self, Shape};
 use super::spoil;
@@ -42,6 +44,27 @@ impl Case for Pair {
             first: &mut self.first,
             second: self.second.as_mut(),
         })
+    }
+}
+
+impl Exposed for Pair {
+    const FRAMES: usize = 2;
+
+    fn exposure(&self) -> Exposure<'_> {
+        Exposure {
+            width: self.width,
+            full_scale: self.full_scale,
+            mask: &self.mask,
+            frames: vec![&self.first, self.second.as_ref().unwrap_or(&self.first)],
+        }
+    }
+
+    fn lent(&mut self, turn: usize) -> (&mut [u8], &mut [u16]) {
+        let frame = match &mut self.second {
+            Some(second) if turn == 1 => second,
+            _ => &mut self.first,
+        };
+        (&mut self.mask, frame)
     }
 }
 
@@ -125,6 +148,12 @@ pub fn pair_figures(tally: &mut Tally, dice: &mut Dice) {
     }
 }
 
+pub fn counts(tally: &mut Tally, dice: &mut Dice) {
+    worked_counts(tally);
+    over_in_one_buffer(tally, dice);
+    counts::common(tally, dice, shapes::SQUARE, of_mask, SPOILERS);
+}
+
 pub const SPOILERS: &[spoil::Spoiler<Pair>] = &[
     |case, dice| {
         let count = dice.below(2);
@@ -151,6 +180,26 @@ fn published(tally: &mut Tally) {
     let first = [100, 101, 102, 103];
     tally.run(of_four(1023, first, [101, 101, 102, 104]));
     tally.run(of_four(1023, first, first.map(|sample| sample + 7)));
+}
+
+/// Samples over in both frames, beside full scale and a gap: 6 at 0, and at 2 with the frames
+/// exchanged, and the count is 3.
+fn worked_counts(tally: &mut Tally) {
+    let mut case = of_four(1023, [1024, 65535, 100, 1023], [100, 65535, 2000, 65535]);
+    case.mask[1] = 1;
+    counts::ask(tally, case.swapped());
+    counts::ask(tally, case);
+}
+
+/// One buffer given twice is two frames: each of its samples over counts in both.
+fn over_in_one_buffer(tally: &mut Tally, dice: &mut Dice) {
+    for turns in [30, 3, 1] {
+        let mut case = legal(dice);
+        counts::expose(&mut case, 0, turns, dice);
+        case.second = None;
+        counts::ask(tally, case);
+        tally.meet("one buffer given twice");
+    }
 }
 
 /// Every difference from -2 to 2 at each of four sites. P runs from 0 to 64 and is often one more
@@ -306,8 +355,8 @@ fn both_frames_above(tally: &mut Tally, dice: &mut Dice) {
         };
         let mut case = of_mask(shape, vec![0; shape.sites()], dice);
         let (one, other) = (dice.below(shape.sites()), dice.below(shape.sites()));
-        case.first[one.max(other)] = spoil::above(case.full_scale, dice);
-        case.second()[one.min(other)] = spoil::above(case.full_scale, dice);
+        case.first[one.max(other)] = spoil::above(case.full_scale, u16::MAX, dice);
+        case.second()[one.min(other)] = spoil::above(case.full_scale, u16::MAX, dice);
         tally.run(case.swapped());
         tally.run(case);
     }

@@ -96,6 +96,12 @@ pub fn legal(dice: &mut Dice) -> Shape {
     }
 }
 
+/// A small window whose planes have more than one site.
+pub const SQUARE: Shape = Shape {
+    width: 4,
+    height: 4,
+};
+
 /// The greatest windows, the greatest of all first.
 pub const GREAT: &[Shape] = &[
     Shape {

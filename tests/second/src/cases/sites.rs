@@ -1,8 +1,10 @@
 //! Cases of finding defective sites and of their repair.
 
+use reference::counts::Exposure;
 use reference::shared::Answer;
 use reference::sites;
 
+use super::counts::{self, Exposed};
 use super::dice::Dice;
 use super::shapes::{self, Shape};
 use super::spoil;
@@ -42,6 +44,26 @@ impl Case for Repair {
     fn library(&mut self) -> Answer {
         let window = self.window.lend();
         library::sites::repair(window, &mut self.out_frame, &mut self.out_mask)
+    }
+}
+
+impl Exposed for Find {
+    fn exposure(&self) -> Exposure<'_> {
+        self.window.exposure()
+    }
+
+    fn lent(&mut self, _: usize) -> (&mut [u8], &mut [u16]) {
+        self.window.mask_and_frame()
+    }
+}
+
+impl Exposed for Repair {
+    fn exposure(&self) -> Exposure<'_> {
+        self.window.exposure()
+    }
+
+    fn lent(&mut self, _: usize) -> (&mut [u8], &mut [u16]) {
+        self.window.mask_and_frame()
     }
 }
 
@@ -124,6 +146,16 @@ pub fn repair(tally: &mut Tally, dice: &mut Dice) {
     for _ in 0..150 {
         tally.run(repair_in(Window::legal(dice), dice));
     }
+}
+
+pub fn counts_of_finding(tally: &mut Tally, dice: &mut Dice) {
+    let make = |shape, mask, dice: &mut Dice| find_in(Window::of_mask(shape, mask, dice), dice);
+    counts::common(tally, dice, shapes::SQUARE, make, FIND_SPOILERS);
+}
+
+pub fn counts_of_repair(tally: &mut Tally, dice: &mut Dice) {
+    let make = |shape, mask, dice: &mut Dice| repair_in(Window::of_mask(shape, mask, dice), dice);
+    counts::common(tally, dice, shapes::SQUARE, make, REPAIR_SPOILERS);
 }
 
 const FIND_SPOILERS: &[spoil::Spoiler<Find>] = &[

@@ -64,13 +64,15 @@ pub fn code(mask: &mut [u8], dice: &mut Dice) {
 pub fn sample(mask: &mut [u8], frame: &mut [u16], full_scale: u64, dice: &mut Dice) {
     let site = dice.below(mask.len());
     mask[site] = 0;
-    frame[site] = above(full_scale, dice);
+    frame[site] = above(full_scale, u16::MAX, dice);
 }
 
-/// A sample above a legal full scale.
-pub fn above(full_scale: u64, dice: &mut Dice) -> u16 {
-    let any = dice.between(full_scale + 1, 65535) as u16;
-    dice.among(&[full_scale as u16 + 1, any, 65535])
+/// A sample above full scale, or `most` where none up to that is.
+pub fn above(full_scale: u64, most: u16, dice: &mut Dice) -> u16 {
+    let most = u64::from(most);
+    let least = full_scale.saturating_add(1).min(most);
+    let any = dice.between(least, most);
+    dice.among(&[least, any, most]) as u16
 }
 
 /// A number above its limit, at times with legal low bits.

@@ -1,8 +1,10 @@
 //! Cases of adding to a stack and of the stack variance.
 
+use reference::counts::Exposure;
 use reference::shared::{Answer, Window};
 use reference::stack;
 
+use super::counts::{self, Exposed};
 use super::dice::Dice;
 use super::shapes::{self, Shape};
 use super::spoil;
@@ -47,6 +49,21 @@ impl Case for Add {
 
     fn library(&mut self) -> Answer {
         library::stack::stack_add(lend(&mut self.stack), &mut self.frame)
+    }
+}
+
+impl Exposed for Add {
+    fn exposure(&self) -> Exposure<'_> {
+        Exposure {
+            width: self.stack.width,
+            full_scale: self.stack.full_scale,
+            mask: &self.stack.mask,
+            frames: vec![&self.frame],
+        }
+    }
+
+    fn lent(&mut self, _: usize) -> (&mut [u8], &mut [u16]) {
+        (&mut self.stack.mask, &mut self.frame)
     }
 }
 
@@ -103,6 +120,11 @@ pub fn stack_add(tally: &mut Tally, dice: &mut Dice) {
     for _ in 0..60 {
         tally.run(legal(dice));
     }
+}
+
+pub fn counts_of_adding(tally: &mut Tally, dice: &mut Dice) {
+    let make = |shape, mask, dice: &mut Dice| of_stack(Stack::of_mask(shape, mask, dice), dice);
+    counts::common(tally, dice, shapes::SQUARE, make, ADD_SPOILERS);
 }
 
 pub fn stack_variance(tally: &mut Tally, dice: &mut Dice) {

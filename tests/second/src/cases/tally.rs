@@ -31,8 +31,8 @@ pub struct Tally {
     pub differences: u64,
     /// How often the reference gave each number, 0 being an accepted call.
     pub numbers: BTreeMap<u64, u64>,
-    /// How often two cases were compared that stand in each relation.
-    pub relations: BTreeMap<&'static str, u64>,
+    /// How often each kind of case was met.
+    pub kinds: BTreeMap<String, u64>,
     pub shown: Vec<String>,
 }
 
@@ -42,7 +42,7 @@ impl Tally {
             cases: 0,
             differences: 0,
             numbers: BTreeMap::new(),
-            relations: BTreeMap::new(),
+            kinds: BTreeMap::new(),
             shown: vec![],
         }
     }
@@ -70,15 +70,14 @@ impl Tally {
         self.ask(case).case
     }
 
+    /// Counts a case of this kind.
+    pub fn meet(&mut self, kind: &str) {
+        *self.kinds.entry(kind.to_string()).or_insert(0) += 1;
+    }
+
     /// Counts two cases that stand in a relation; a law that their answers break is a difference.
-    pub fn compare<C: Case>(
-        &mut self,
-        relation: &'static str,
-        law: Law,
-        one: &Asked<C>,
-        other: &Asked<C>,
-    ) {
-        *self.relations.entry(relation).or_insert(0) += 1;
+    pub fn compare<C: Case>(&mut self, relation: &str, law: Law, one: &Asked<C>, other: &Asked<C>) {
+        self.meet(relation);
         if let Err(broken) = law {
             let [one, other] = [one, other].map(|asked| shown(&asked.case, &asked.answers));
             self.differ(|| format!("  {relation}: {broken}\n{one}\n{other}"));

@@ -1,5 +1,7 @@
 //! Masks and frames, and what the calls on one frame have in common.
 
+use reference::counts::Exposure;
+
 use super::dice::Dice;
 use super::shapes::{self, Shape};
 use super::spoil;
@@ -139,6 +141,19 @@ impl Window {
         }
     }
 
+    pub fn exposure(&self) -> Exposure<'_> {
+        Exposure {
+            width: self.width,
+            full_scale: self.full_scale,
+            mask: &self.mask,
+            frames: vec![&self.frame],
+        }
+    }
+
+    pub fn mask_and_frame(&mut self) -> (&mut [u8], &mut [u16]) {
+        (&mut self.mask, &mut self.frame)
+    }
+
     pub fn spoil_code(&mut self, dice: &mut Dice) {
         spoil::code(&mut self.mask, dice);
     }
@@ -220,7 +235,7 @@ fn codes_at(site: usize, shape: Shape, dice: &mut Dice, windows: &mut Vec<Window
         window.mask[site] = code;
         windows.push(window.clone());
         let other = dice.below(shape.sites());
-        window.frame[other] = spoil::above(window.full_scale, dice);
+        window.frame[other] = spoil::above(window.full_scale, u16::MAX, dice);
         windows.push(window);
     }
 }
