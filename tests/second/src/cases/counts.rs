@@ -1,7 +1,5 @@
 //! Cases of the count of samples over (document 02, d), for every call that can give 6.
 
-use std::ops::Range;
-
 use reference::counts::{self, Exposure};
 use reference::shared::{surveyed, Answer};
 
@@ -114,10 +112,10 @@ fn greatest<C: Exposed>() -> Shape {
 }
 
 /// Each frame alone, and where there are two both.
-fn sets_of_frames<C: Exposed>() -> &'static [Range<usize>] {
+fn sets_of_frames<C: Exposed>() -> &'static [&'static [usize]] {
     match C::FRAMES {
-        1 => &[0..1],
-        _ => &[0..1, 1..2, 0..2],
+        1 => &[&[0]],
+        _ => &[&[0], &[1], &[0, 1]],
     }
 }
 
@@ -200,11 +198,11 @@ fn scattered<C: Exposed>(
 ) {
     for shape in [shapes::legal(dice), shapes::legal(dice), greatest::<C>()] {
         for turns in [30, 3, 1] {
-            for frames in sets_of_frames::<C>() {
+            for &frames in sets_of_frames::<C>() {
                 let mask = windows::mask(shape.sites(), dice);
                 let mut case = make(shape, mask, dice);
                 fill(&mut case, dice);
-                for turn in frames.clone() {
+                for &turn in frames {
                     expose(&mut case, turn, turns, dice);
                 }
                 related(tally, case, dice);
@@ -260,9 +258,9 @@ fn all_over<C: Exposed>(
     make: &impl Fn(Shape, Vec<u8>, &mut Dice) -> C,
 ) {
     for shape in [LEAST, shapes::legal(dice), greatest::<C>()] {
-        for frames in sets_of_frames::<C>() {
+        for &frames in sets_of_frames::<C>() {
             let mut case = make(shape, vec![0; shape.sites()], dice);
-            for turn in frames.clone() {
+            for &turn in frames {
                 expose(&mut case, turn, 1, dice);
             }
             ask(tally, case);
