@@ -68,35 +68,34 @@ pub fn codes<const WALK: bool>(mask: &[u8]) -> Refusal {
     ACCEPTED
 }
 
-/// How many surveyed samples of a frame are above full scale, which refusal 2 has let pass.
+/// How many surveyed samples of a frame are above full scale.
 fn over(full_scale: u64, mask: &[u8], frame: &[u16]) -> u64 {
-    let frame = &frame[..mask.len()];
-    let top = full_scale as u16;
-    // 16 bits, as the samples have, so that the walk vectorises; no window has more sites than they can count
-    let mut count = 0u16;
-    for i in 0..mask.len() {
-        count += u16::from((mask[i] == 0) & (top < frame[i]));
-    }
-    count as u64
+    let surveyed = mask.iter().zip(frame).filter(|(code, _)| **code == 0);
+    surveyed
+        .filter(|(_, sample)| full_scale < **sample as u64)
+        .count() as u64
 }
 
-/// Refusal 6: the first surveyed sample above full scale, and how many there are in all frames. With `WALK` they are
-/// counted first, and the first is looked for only where there is one.
+/// Refusal 6: the first surveyed sample above full scale, and how many there are in all frames. With `WALK` it is looked
+/// for only where there is one. They are counted only then: counting takes longer than telling whether there are any.
 pub fn samples<const WALK: bool, const FRAMES: usize>(
     full_scale: u64,
     mask: &[u8],
     frames: [&[u16]; FRAMES],
 ) -> Refusal {
-    let all_over = || frames.map(|of| over(full_scale, mask, of)).iter().sum();
-    let counted = if WALK { all_over() } else { 0 };
-    if WALK && counted == 0 {
-        return ACCEPTED;
-    }
+    let top = full_scale as u16;
     for frame in frames {
         let frame = &frame[..mask.len()];
+        if WALK && !some::<WALK>(mask.len(), |i| (mask[i] == 0) & (top < frame[i])) {
+            continue;
+        }
         for i in 0..mask.len() {
             if mask[i] == 0 && full_scale < frame[i] as u64 {
-                return (6, i as u64, if WALK { counted } else { all_over() });
+                return (
+                    6,
+                    i as u64,
+                    frames.map(|of| over(full_scale, mask, of)).iter().sum(),
+                );
             }
         }
     }
