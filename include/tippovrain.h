@@ -141,7 +141,7 @@ uint64_t tip_unpack_raw10(size_t width, size_t height,
  *   full_scale   grey levels, 1 to 4095
  *   mask         width * height codes, only read: 0 surveyed, 1 gap, 2 defect, 3 filled
  *   first,       width * height samples each, only read; a sample at any code but 0 may be any number, and changes
- *   second       nothing. Both may be one buffer: p is then 0
+ *   second       nothing. Both may be one buffer: p is then 0, and over counts each of its samples twice
  *   place        written: the first offending site for 5 and 6, else 0
  *   over         written: for 6 how many surveyed samples of both frames are above full_scale, 1 to 2 * width * height;
  *                else 0

@@ -33,7 +33,7 @@ pub struct PairFigures {
 ///
 /// - `mask`: `width * height` codes, 0 to 3
 /// - `first`, `second`: `width * height` samples each, grey levels, 0 to full scale where surveyed. Both may be one
-///   buffer: variance and noise are then 0
+///   buffer: variance and noise are then 0, and of a 6 `over` counts each of its samples twice
 ///
 /// # Errors
 ///
