@@ -13,7 +13,7 @@ use Rattle.verdict.proofs.Verdicts.{not-given, then-assoc}
 use Rattle.window.specs.Shape.{sitesOf}
 use Rattle.window.specs.View.{seen, one}
 use Rattle.refusals.specs.Judge.{shapeOf, lengthOf, codesOf, samplesOf, maskVerdict, frameVerdict}
-use Rattle.refusals.proofs.Ranges.{overOf, range-one}
+use Rattle.refusals.proofs.Ranges.{overFull, range-one}
 use Rattle.plane.specs.Plane.{planeRow, planeColumn, sums}
 use Rattle.plane.specs.declared.Sums.{Sums}
 use Rattle.plane.proofs.Planes.{box-seen}
@@ -55,7 +55,7 @@ in-turn : (w h full black order : ℕ) (mask frame : List ℕ) (v : Verdict)
     ⨟ lengthOf w h (length frame)
     ⨟ verdict.Clear
     ⨟ codesOf (sitesOf w h) mask
-    ⨟ samplesOf (overOf w h full (seen mask frame)) (sitesOf w h) full (seen mask frame)
+    ⨟ samplesOf (overFull w h full (seen mask frame)) (sitesOf w h) full (seen mask frame)
     ⨟ v
 unfolding lentVerdict frameVerdict maskVerdict
 in-turn w h full black order mask frame v = rw (range-one w h full (seen mask frame)) (simp then-assoc refl)

@@ -6,13 +6,12 @@ use Prim.Native.Nat.{ℕ, _+_}
 use mathlib.Core.List.{List}
 use mathlib.Core.Path.{_≡_, refl}
 use lib.ListN.{length}
-use Rattle.laws.specs.First.{countTo}
 use Rattle.verdict.specs.Verdict.{numberOf, placeOf, overOf}
 use Rattle.verdict.specs.Answer.{Paper, CountedPaper}
 use Rattle.verdict.specs.declared.Verdict.{Verdict}
 use Rattle.verdict.proofs.Verdicts.{Test, Tabled, Refuses, RefusesCounting, never-over}
-use Rattle.window.specs.Shape.{sitesOf}
-use Rattle.window.specs.View.{above, seen}
+use Rattle.window.specs.View.{seen}
+use Rattle.refusals.proofs.Ranges.{overFull}
 use Rattle.raw.specs.Unpack.{unpackVerdict, unpackPaper, unpackBuffer}
 use Rattle.raw.specs.Unpack as unpacking
 use Rattle.raw.proofs.Unpacks as raw-table
@@ -68,7 +67,7 @@ pub record Refusing {F : Type 0} (verdict : Verdict) (tests : List Test) (paper 
   -- where the number is not 0 the rest is untouched, and where it is 0 so is the place
   pub refused : Refuses (paper .number) (paper .place) Untouched
 
--- of one call that can, where so many samples of its frames are above full scale
+-- of one call that can, where so many samples of its frames are above full scale (`overFull` counts those of one)
 pub record RefusingOver {F : Type 0} (verdict : Verdict) (tests : List Test) (paper : CountedPaper F) (samples : ℕ) (Untouched : Type 0) : Type 0 where
   -- a refusal is given, with its number, place and count, likewise
   pub given : Tabled verdict tests
@@ -77,10 +76,6 @@ pub record RefusingOver {F : Type 0} (verdict : Verdict) (tests : List Test) (pa
   -- where the number is not 0 the rest is untouched, and where it is 0 so is the place; the count is just so many at 6, and at least 1, and else 0
   pub refused : RefusesCounting paper samples Untouched
 
--- how many of a window's surveyed samples are above full scale
-abbrev over : ℕ → ℕ → ℕ → List ℕ → List ℕ → ℕ
-over w h full mask frame = countTo (sitesOf w h) (above full (seen mask frame))
-
 pub record Demand1 : Type 0 where
   pub unpack-raw10 : (w h : ℕ) (bytes out : List ℕ)
       → let paper = unpackPaper w h (length bytes) (length out) in
@@ -88,15 +83,15 @@ pub record Demand1 : Type 0 where
       (unpackBuffer w h bytes out ≡ out)
   pub pair-figures : (w h full : ℕ) (mask first second : List ℕ)
       → let paper = pairPaper w h full mask first second in
-      RefusingOver (pairVerdict w h full mask first second) (pair-table.tests w h full mask first second) paper (over w h full mask first + over w h full mask second)
+      RefusingOver (pairVerdict w h full mask first second) (pair-table.tests w h full mask first second) paper (overFull w h full (seen mask first) + overFull w h full (seen mask second))
       (paper .figures ≡ pair-numbers.noFigures)
   pub dark-level : (w h full black : ℕ) (mask frame : List ℕ)
       → let paper = darkPaper w h full black mask frame in
-      RefusingOver (darkVerdict w h full black mask frame) (dark-table.tests w h full black mask frame) paper (over w h full mask frame)
+      RefusingOver (darkVerdict w h full black mask frame) (dark-table.tests w h full black mask frame) paper (overFull w h full (seen mask frame))
       (paper .figures ≡ levels.noFigures)
   pub stack-add : (w h full k : ℕ) (mask frame sums squares : List ℕ)
       → let paper = addPaper w h full k mask frame sums squares in
-      RefusingOver (addVerdict w h full k mask frame sums squares) (add-table.tests w h full k mask frame sums squares) paper (over w h full mask frame)
+      RefusingOver (addVerdict w h full k mask frame sums squares) (add-table.tests w h full k mask frame sums squares) paper (overFull w h full (seen mask frame))
       ((paper .figures ≡ 0) × (addSums w h full k mask frame sums squares ≡ sums) × (addSquares w h full k mask frame sums squares ≡ squares))
   pub stack-variance : (w h full k : ℕ) (mask sums squares : List ℕ)
       → let paper = variance.variancePaper w h full k mask sums squares in
@@ -109,26 +104,26 @@ pub record Demand1 : Type 0 where
       (paper .figures ≡ noFigures)
   pub find-defects : (w h full t : ℕ) (mask frame out : List ℕ)
       → let paper = findPaper w h full t mask frame (length out) in
-      RefusingOver (findVerdict w h full t mask frame (length out)) (find-tests w h full t mask frame (length out)) paper (over w h full mask frame)
+      RefusingOver (findVerdict w h full t mask frame (length out)) (find-tests w h full t mask frame (length out)) paper (overFull w h full (seen mask frame))
       ((paper .figures ≡ 0) × (findMask w h full t mask frame out ≡ out))
   pub repair : (w h full : ℕ) (mask frame outFrame outMask : List ℕ)
       → let paper = repairPaper w h full mask frame (length outFrame) (length outMask) in
-      RefusingOver (repairVerdict w h full mask frame (length outFrame) (length outMask)) (repair-tests w h full mask frame (length outFrame) (length outMask)) paper (over w h full mask frame)
+      RefusingOver (repairVerdict w h full mask frame (length outFrame) (length outMask)) (repair-tests w h full mask frame (length outFrame) (length outMask)) paper (overFull w h full (seen mask frame))
       ((paper .figures ≡ 0)
       × (repairFrame w h full mask frame outFrame (length outMask) ≡ outFrame)
       × (repairMask w h full mask frame (length outFrame) outMask ≡ outMask))
   -- of rows and of columns
   pub defective-lines : (lines : ℕ → ℕ → plane-lines.Lines) (w h full : ℕ) (mask frame marks : List ℕ)
       → let paper = linesPaper lines w h full mask frame (length marks) in
-      RefusingOver (linesVerdict lines w h full mask frame (length marks)) (lines-table.tests lines w h full mask frame (length marks)) paper (over w h full mask frame)
+      RefusingOver (linesVerdict lines w h full mask frame (length marks)) (lines-table.tests lines w h full mask frame (length marks)) paper (overFull w h full (seen mask frame))
       (linesBuffer lines w h full mask frame marks ≡ marks)
   pub colour-ratios : (w h full black order : ℕ) (mask frame : List ℕ)
       → let paper = colourPaper w h full black order mask frame in
-      RefusingOver (colourVerdict w h full black order mask frame) (colour-table.tests w h full black order mask frame) paper (over w h full mask frame)
+      RefusingOver (colourVerdict w h full black order mask frame) (colour-table.tests w h full black order mask frame) paper (overFull w h full (seen mask frame))
       (paper .figures ≡ ratios.noFigures)
   pub job : (s : List ℕ)
       → let paper = jobPaper s in
-      RefusingOver (jobVerdict s) (stream.tests s) paper (over (widthOf s) (heightOf s) (fullOf s) (maskOf s) (firstOf s) + over (widthOf s) (heightOf s) (fullOf s) (maskOf s) (secondOf s))
+      RefusingOver (jobVerdict s) (stream.tests s) paper (overFull (widthOf s) (heightOf s) (fullOf s) (seen (maskOf s) (firstOf s)) + overFull (widthOf s) (heightOf s) (fullOf s) (seen (maskOf s) (secondOf s)))
       (paper .figures ≡ jobs.noFigures)
 
 pub demand-1 : Demand1

@@ -1,6 +1,6 @@
 -- Refusal 6: what it tells where it does not apply, its table and its count, and what is walked for it.
 use Prim.Native.Nat.{ℕ, _+_, _*_, _<_, _≤_}
-use mathlib.Core.Bool.{false, not, _||_}
+use mathlib.Core.Bool.{true, false, not, _||_}
 use mathlib.Core.List.{List, [], _∷_}
 use mathlib.Core.Logic.{⊎-elim}
 use mathlib.Core.Path.{_≡_, refl, sym, ap, _∙_, subst}
@@ -65,7 +65,7 @@ module _ (over n full : ℕ) where
   unfolding overIn
   counting [] l = no-six
   counting (view ∷ views) l =
-      also refl (λ a. omega (arith, some-counted (above full view) n a)) (counting views (omega arith))
+      also refl (λ (a : someTo n (above full view) ≡ true). omega (arith, some-counted (above full view) n a)) (counting views (omega arith))
 
 module _ (w h full : ℕ) where
   -- one view's test of 6, with the count over all views of the call
@@ -79,32 +79,32 @@ module _ (w h full : ℕ) where
   all-counting views = counting (overIn (sitesOf w h) full views) (sitesOf w h) full views (omega arith)
 
   -- how many samples of a view are above full scale
-  abbrev pub overOf : (ℕ → ℕ) → ℕ
-  overOf view = countTo (sitesOf w h) (above full view)
+  abbrev pub overFull : (ℕ → ℕ) → ℕ
+  overFull view = countTo (sitesOf w h) (above full view)
 
-  -- so the count of one frame, and of two, is
-  one-over : (view : ℕ → ℕ) → overIn (sitesOf w h) full (view ∷ []) ≡ overOf view
+  -- what is counted over all frames is that, of one frame and of two
+  one-over : (view : ℕ → ℕ) → overIn (sitesOf w h) full (view ∷ []) ≡ overFull view
   unfolding overIn
-  one-over view = add-zero (overOf view)
+  one-over view = add-zero (overFull view)
 
-  two-over : (first second : ℕ → ℕ) → overIn (sitesOf w h) full (first ∷ second ∷ []) ≡ overOf first + overOf second
+  two-over : (first second : ℕ → ℕ) → overIn (sitesOf w h) full (first ∷ second ∷ []) ≡ overFull first + overFull second
   unfolding overIn
-  two-over first second = ap (λ (k : ℕ). overOf first + k) (add-zero (overOf second))
+  two-over first second = ap (λ (k : ℕ). overFull first + k) (add-zero (overFull second))
 
-  pub one-counting : (view : ℕ → ℕ) → Counting (overOf view) (allTests (view ∷ []))
+  pub one-counting : (view : ℕ → ℕ) → Counting (overFull view) (allTests (view ∷ []))
   one-counting view = subst (λ (k : ℕ). Counting k (allTests (view ∷ []))) (one-over view) (all-counting (view ∷ []))
 
-  pub two-counting : (first second : ℕ → ℕ) → Counting (overOf first + overOf second) (allTests (first ∷ second ∷ []))
+  pub two-counting : (first second : ℕ → ℕ) → Counting (overFull first + overFull second) (allTests (first ∷ second ∷ []))
   two-counting first second =
       subst (λ (k : ℕ). Counting k (allTests (first ∷ second ∷ []))) (two-over first second) (all-counting (first ∷ second ∷ []))
 
   -- what `samples` asks of one frame, and of two, is the range check
-  pub range-one : (view : ℕ → ℕ) → samplesOf (overOf view) (sitesOf w h) full view ≡ rangeOf w h full (view ∷ [])
+  pub range-one : (view : ℕ → ℕ) → samplesOf (overFull view) (sitesOf w h) full view ≡ rangeOf w h full (view ∷ [])
   unfolding samplesIn
   range-one view = rw (one-over view) (sym (then-end _))
 
   pub range-two : (first second : ℕ → ℕ)
-      → samplesOf (overOf first + overOf second) (sitesOf w h) full first ⨟ samplesOf (overOf first + overOf second) (sitesOf w h) full second
+      → samplesOf (overFull first + overFull second) (sitesOf w h) full first ⨟ samplesOf (overFull first + overFull second) (sitesOf w h) full second
       ≡ rangeOf w h full (first ∷ second ∷ [])
   unfolding samplesIn
   range-two first second = rw (two-over first second, then-end)

@@ -90,13 +90,11 @@ module _ (s : List ℕ) where
           let l = lent clear in
           left-is (widthOf s) (heightOf s) (fullOf s) (blackOf s) (maskOf s) (firstOf s) (secondOf s) (l .even) (l .mask) (l .first) (l .second)
 
-  -- how many samples of a frame in the stream are above full scale
-  abbrev pub overFull : List ℕ → ℕ
-  overFull frame = countTo (sitesIn s) (above (fullOf s) (seen (maskOf s) frame))
-
   -- refused: where the number is not 0 every other number but place and over is 0, and where it is 0 so is the place. Where it is 6, over is
   -- at least 1 and just the count of samples above full scale, over both frames; else it is 0
-  pub refused : RefusesCounting (jobPaper s) (overFull (firstOf s) + overFull (secondOf s)) (jobPaper s .figures ≡ noFigures)
+  pub refused : RefusesCounting (jobPaper s)
+      (countTo (sitesIn s) (above (fullOf s) (seen (maskOf s) (firstOf s))) + countTo (sitesIn s) (above (fullOf s) (seen (maskOf s) (secondOf s))))
+      (jobPaper s .figures ≡ noFigures)
   unfolding jobPaper fieldsTests
   refused = (
     refuses (jobVerdict s) given refl (λ r e. rw e),
