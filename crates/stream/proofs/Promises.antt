@@ -137,9 +137,9 @@ module _ (s : List ℕ) where
       by (verdict.Refused r) = (refl, refl)
 
   -- a stream that is answered with figures has no fault
-  pub accepted : (n p q r over : ℕ) (level : ℤ) (under : ℕ) → jobAnswer s ≡ Figures n p q r over level under → streamVerdict s ≡ verdict.Clear
+  pub accepted : (n p q r rOver : ℕ) (level : ℤ) (darkOver : ℕ) → jobAnswer s ≡ Figures n p q r rOver level darkOver → streamVerdict s ≡ verdict.Clear
   unfolding jobAnswer jobVerdict
-  accepted n p q r over level under e =
+  accepted n p q r rOver level darkOver e =
       then-clear (streamVerdict s) _ (was-accepted (jobVerdict s) (λ t f. let z : _≡_ {A = ℕ} 0 1 = cc in absurd (omega arith)) e .0) .0
 
   -- ---- of a stream without a fault: its sides are legal and at most 64 (`Faultless`)
