@@ -114,7 +114,7 @@ pub record Beside : Type 0 where
       × (pairAnswer 4 2 1023 (all 8 0) (all 8 100) (tabulate 8 (λ (i : ℕ). cond (ltb i 4) 101 100))
       ≡ pair.Measured (record { n = 8; p = 16; q = 128; r = 181; variance = fin false 1 (negsuc 2); noise = fin false 181 (negsuc 8) }))
   -- document 02 d, at full scale 10: 11 and 12 are over, 10 is not, and a gap holding 99 is not counted. A pair counts over both frames,
-  -- also where the place is in the first alone; one frame counts its own
+  -- wherever the place is; a call of one frame counts that frame's
   pub both-over : pairAnswer 2 2 10 (but 4 0 1 1) (11 ∷ 99 ∷ 10 ∷ 11 ∷ []) (3 ∷ 99 ∷ 12 ∷ 10 ∷ []) ≡ pair.Refused (refusalOver 6 0 3)
   pub second-over : pairAnswer 2 2 10 (but 4 0 1 1) (10 ∷ 99 ∷ 5 ∷ 10 ∷ []) (3 ∷ 99 ∷ 11 ∷ 3 ∷ []) ≡ pair.Refused (refusalOver 6 2 1)
   pub one-over : darkAnswer 2 2 10 0 (but 4 0 1 1) (10 ∷ 99 ∷ 11 ∷ 12 ∷ []) ≡ dark.Refused (refusalOver 6 2 2)

@@ -79,7 +79,7 @@ module _ (w h full k : ℕ) (mask frame sums squares : List ℕ) where
       by verdict.Clear = (added-keeps (seen mask frame) sums i none, added-keeps (squared (seen mask frame)) squares i (rw none))
       by (verdict.Refused r) = (refl, refl)
 
-  -- blind: what a frame or the sums hold at unsurveyed sites changes neither the answer nor what is written at surveyed ones
+  -- blind: what a frame or the sums hold at unsurveyed sites changes neither the answer, its counts among it, nor what is written at surveyed ones
   module _ (frame′ sums′ squares′ : List ℕ) (f : Agree mask frame frame′) (s : Agree mask sums sums′) (q : Agree mask squares squares′) where
     same-verdict : addVerdict w h full k mask frame sums squares ≡ addVerdict w h full k mask frame′ sums′ squares′
     unfolding addVerdict frameVerdict

@@ -207,7 +207,7 @@ figures-alike s t a clear clear′ =
     ∙ together-same (pair.blind (widthOf s) (heightOf s) (fullOf s) (a .first) (a .second)) (dark.blind (widthOf s) (heightOf s) (fullOf s) (blackOf s) (maskOf s) (firstOf s) (firstOf t) (a .first))
     ∙ work-is t clear′ (a .wide) (a .high) (a .full) (a .black) (a .mask) refl refl
 
--- blind: what a stream's frames hold at unsurveyed sites changes nothing, whatever fault both have
+-- blind: what a stream's frames hold at unsurveyed sites changes nothing, no count either, whatever fault both have
 pub blind : (s t : List ℕ) → Alike s t → streamVerdict s ≡ streamVerdict t → jobAnswer s ≡ jobAnswer t
 blind s t a same = by (streamVerdict s) refl
   where

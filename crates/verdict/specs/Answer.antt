@@ -1,4 +1,4 @@
--- Document 01, "Refusal numbers": what a verdict makes of a call. This is the frame of every call: its own crate says the tests and the figures.
+-- Document 01, "Refusal numbers", as document 02 d amends them: what a verdict makes of a call. This is the frame of every call: its own crate says the tests and the figures.
 use Prim.Native.Nat.{ℕ}
 use Rattle.verdict.specs.Verdict.{numberOf, placeOf, overOf, ifClear}
 use Rattle.verdict.specs.declared.Refusal.{Refusal}

@@ -1,4 +1,4 @@
-// Verdicts in turn, and the refusal that the first of them gives: document 01, "Refusal numbers".
+// Verdicts in turn, and the refusal that the first of them gives: document 01, "Refusal numbers", as document 02 d amends them.
 ghost use mathlib.Core.Path.{_≡_};
 ghost use Rattle.verdict.specs.Verdict.{_⨟_, refuseIf};
 
@@ -24,6 +24,7 @@ pub fn then(first: Verdict, second: Verdict) -> Verdict
     }
 }
 
+// A refusal by number and place, with no count, where the test applies.
 pub fn refuse_if(number: u64, place: usize, applies: bool) -> Verdict
     ensures { λ r. ⌜ r ≡ refuseIf number place applies ⌝ }
 {
