@@ -141,7 +141,7 @@ static void unpack_raw10(void)
 static const uint8_t all_surveyed[4] = {0, 0, 0, 0}, one_surveyed[4] = {1, 2, 3, 0}, bad_code[4] = {0, 0, 4, 0};
 static const uint16_t k1_first[4] = {100, 101, 102, 103}, k1_second[4] = {101, 101, 102, 104};
 
-/* Above full scale 1023 at two surveyed sites, the first at 2, and the first at 1; all that is not surveyed holds more. */
+/* Two surveyed sites above full scale 1023, beside a gap the first of them at 2, beside a defect and a filled site at 1; what is not surveyed holds more. */
 static const uint8_t gap_beside[4] = {0, 1, 0, 0}, defects_beside[4] = {2, 0, 3, 0};
 static const uint16_t above_gap[4] = {1023, 65535, 1024, 4095}, above_defects[4] = {65535, 1024, 65535, 1025};
 

@@ -8,7 +8,7 @@ use lib.Dec.{eqb}
 use lib.ListN.{length, getD}
 use Rattle.laws.specs.First.{countTo}
 use Rattle.laws.proofs.Sole.{Sole, sole}
-use Rattle.verdict.proofs.Verdicts.{Tabled, RefusesCounting, refuses, over-at-six}
+use Rattle.verdict.proofs.Verdicts.{Tabled, RefusesCounting, refuses-counting}
 use Rattle.verdict.proofs.Answers.{counted-told}
 use Rattle.window.specs.Shape.{sitesOf}
 use Rattle.window.specs.View.{surveyed, seen, one, above}
@@ -43,14 +43,11 @@ module _ (w h full black order : ℕ) (mask frame : List ℕ) where
   given = table w h full black order mask frame
 
   -- refused: where the number is not 0 all six figures are 0, and where it is 0 so is the place. Where it is 6, over is at least 1 and just
-  -- the count of samples above full scale; else it is 0
+  -- the count of surveyed samples above full scale; else it is 0
   pub refused : RefusesCounting (colourPaper w h full black order mask frame) (countTo (sitesOf w h) (above full (seen mask frame)))
       (colourPaper w h full black order mask frame .figures ≡ noFigures)
   unfolding colourPaper
-  refused = (
-    refuses (colourVerdict w h full black order mask frame) given refl (λ r e. rw e),
-    over-at-six (colourVerdict w h full black order mask frame) given refl (one-counting w h full (seen mask frame)),
-  )
+  refused = refuses-counting (colourVerdict w h full black order mask frame) given refl refl (one-counting w h full (seen mask frame)) (λ r e. rw e)
 
   -- blind: what another frame holds at unsurveyed sites changes nothing, no count either
   pub blind : (other : List ℕ) → Agree mask frame other

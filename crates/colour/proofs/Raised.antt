@@ -31,10 +31,11 @@ module _ (w h full black order d : ℕ) (mask frame brighter : List ℕ) (long :
   lifted : (i : ℕ) → i < sitesOf w h → Shifted d 0 (one mask i) (seen mask frame i) (seen mask brighter i)
   lifted i l = seen-shift mask frame brighter d 0 i (λ t. omega (arith, each i l t .0))
 
-  -- neither frame has a surveyed sample above full scale
+  -- the brighter frame has no surveyed sample above full scale
   in-scale : (i : ℕ) → i < sitesOf w h → seen mask brighter i ≤ full
   in-scale i l = seen-most mask brighter full i (λ t. each i l t .1)
 
+  -- so neither has one, and neither gets 6
   range : rangeOf w h full (seen mask brighter ∷ []) ≡ rangeOf w h full (seen mask frame ∷ [])
   range =
       clear-samples _ _ _ (more in-scale none)

@@ -11,7 +11,7 @@ use Rattle.laws.specs.Sum.{sumTo}
 use Rattle.laws.specs.Signed.{_⊖_}
 use Rattle.laws.proofs.Signeds.{⊖-below, ⊖-self, ⊖-cross}
 use Rattle.laws.proofs.Sole.{Sole, sole}
-use Rattle.verdict.proofs.Verdicts.{Tabled, RefusesCounting, refuses, over-at-six}
+use Rattle.verdict.proofs.Verdicts.{Tabled, RefusesCounting, refuses-counting}
 use Rattle.verdict.proofs.Answers.{counted-told}
 use Rattle.window.specs.Shape.{sitesOf}
 use Rattle.window.specs.View.{seen, one, above}
@@ -37,14 +37,11 @@ module _ (w h full black : ℕ) (mask frame : List ℕ) where
   given = table w h full black mask frame
 
   -- refused: where the number is not 0 both figures are 0, and where it is 0 so is the place. Where it is 6, over is at least 1 and just the
-  -- count of samples above full scale; else it is 0
+  -- count of surveyed samples above full scale; else it is 0
   pub refused : RefusesCounting (darkPaper w h full black mask frame) (countTo (sitesOf w h) (above full (seen mask frame)))
       (darkPaper w h full black mask frame .figures ≡ noFigures)
   unfolding darkPaper
-  refused = (
-    refuses (darkVerdict w h full black mask frame) given refl (λ r e. rw e),
-    over-at-six (darkVerdict w h full black mask frame) given refl (one-counting w h full (seen mask frame)),
-  )
+  refused = refuses-counting (darkVerdict w h full black mask frame) given refl refl (one-counting w h full (seen mask frame)) (λ r e. rw e)
 
   -- blind: what another frame holds at unsurveyed sites changes nothing, no count either
   pub blind : (other : List ℕ) → Agree mask frame other → darkAnswer w h full black mask frame ≡ darkAnswer w h full black mask other

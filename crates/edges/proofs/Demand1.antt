@@ -67,7 +67,7 @@ pub record Refusing {F : Type 0} (verdict : Verdict) (tests : List Test) (paper 
   -- where the number is not 0 the rest is untouched, and where it is 0 so is the place
   pub refused : Refuses (paper .number) (paper .place) Untouched
 
--- of one call that can, where so many samples of its frames are above full scale (`overFull` counts those of one)
+-- of one call that can, where so many surveyed samples of its frames are above full scale (`overFull` counts those of one frame)
 pub record RefusingOver {F : Type 0} (verdict : Verdict) (tests : List Test) (paper : CountedPaper F) (samples : ℕ) (Untouched : Type 0) : Type 0 where
   -- a refusal is given, with its number, place and count, likewise
   pub given : Tabled verdict tests

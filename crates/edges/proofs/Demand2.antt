@@ -8,11 +8,11 @@ use mathlib.Core.List.{List}
 use mathlib.Core.Logic.{_⊎_}
 use mathlib.Core.Path.{_≡_}
 use lib.ListN.{length, getD}
-use Rattle.laws.specs.First.{countTo}
 use Rattle.verdict.specs.declared.Verdict.the-variants as verdict
 use Rattle.window.specs.Shape.{sitesOf}
-use Rattle.window.specs.View.{surveyed, above, seen}
+use Rattle.window.specs.View.{surveyed, seen}
 use Rattle.window.proofs.Views.{Agree, same-view}
+use Rattle.refusals.proofs.Ranges.{overFull}
 use Rattle.pair.specs.Pair.{pairAnswer}
 use Rattle.pair.proofs.Promises as pair
 use Rattle.dark.specs.Dark.{darkAnswer}
@@ -40,7 +40,7 @@ use Rattle.stream.proofs.Promises as stream
 pub record Blind : Type 0 where
   -- of any frame: how many of its surveyed samples are above full scale
   pub samples-over : (w h full : ℕ) {mask frame other : List ℕ} → Agree mask frame other
-      → countTo (sitesOf w h) (above full (seen mask frame)) ≡ countTo (sitesOf w h) (above full (seen mask other))
+      → overFull w h full (seen mask frame) ≡ overFull w h full (seen mask other)
   pub pair-figures : (w h full : ℕ) {mask first first′ second second′ : List ℕ} → Agree mask first first′ → Agree mask second second′
       → pairAnswer w h full mask first second ≡ pairAnswer w h full mask first′ second′
   pub dark-level : (w h full black : ℕ) (mask frame other : List ℕ) → Agree mask frame other

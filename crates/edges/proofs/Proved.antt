@@ -51,10 +51,10 @@ beside = record {
   lone-95 = ((refl, refl), (refl, refl));
   lone-101 = (refl, refl);
   one-eighth = (refl, refl);
-  both-over = refl;
-  second-over = refl;
-  one-over = refl;
-  none-over = refl;
+  over-in-both = refl;
+  over-in-second = refl;
+  over-in-one-frame = refl;
+  over-behind-code = refl;
   met-unmarked = refl;
   met-marked = refl;
 }

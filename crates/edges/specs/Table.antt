@@ -114,12 +114,12 @@ pub record Beside : Type 0 where
       × (pairAnswer 4 2 1023 (all 8 0) (all 8 100) (tabulate 8 (λ (i : ℕ). cond (ltb i 4) 101 100))
       ≡ pair.Measured (record { n = 8; p = 16; q = 128; r = 181; variance = fin false 1 (negsuc 2); noise = fin false 181 (negsuc 8) }))
   -- document 02 d, at full scale 10: 11 and 12 are over, 10 is not, and a gap holding 99 is not counted. A pair counts over both frames,
-  -- wherever the place is; a call of one frame counts that frame's
-  pub both-over : pairAnswer 2 2 10 (but 4 0 1 1) (11 ∷ 99 ∷ 10 ∷ 11 ∷ []) (3 ∷ 99 ∷ 12 ∷ 10 ∷ []) ≡ pair.Refused (refusalOver 6 0 3)
-  pub second-over : pairAnswer 2 2 10 (but 4 0 1 1) (10 ∷ 99 ∷ 5 ∷ 10 ∷ []) (3 ∷ 99 ∷ 11 ∷ 3 ∷ []) ≡ pair.Refused (refusalOver 6 2 1)
-  pub one-over : darkAnswer 2 2 10 0 (but 4 0 1 1) (10 ∷ 99 ∷ 11 ∷ 12 ∷ []) ≡ dark.Refused (refusalOver 6 2 2)
+  -- though its place is in one; a call on one frame counts that
+  pub over-in-both : pairAnswer 2 2 10 (but 4 0 1 1) (11 ∷ 99 ∷ 10 ∷ 11 ∷ []) (3 ∷ 99 ∷ 12 ∷ 10 ∷ []) ≡ pair.Refused (refusalOver 6 0 3)
+  pub over-in-second : pairAnswer 2 2 10 (but 4 0 1 1) (10 ∷ 99 ∷ 5 ∷ 10 ∷ []) (3 ∷ 99 ∷ 11 ∷ 3 ∷ []) ≡ pair.Refused (refusalOver 6 2 1)
+  pub over-in-one-frame : darkAnswer 2 2 10 0 (but 4 0 1 1) (10 ∷ 99 ∷ 11 ∷ 12 ∷ []) ≡ dark.Refused (refusalOver 6 2 2)
   -- a code above 3 comes first, and counts nothing
-  pub none-over : pairAnswer 2 2 10 (but 4 0 1 4) (11 ∷ 99 ∷ 10 ∷ 11 ∷ []) (3 ∷ 99 ∷ 12 ∷ 10 ∷ []) ≡ pair.Refused (refusal 5 1)
+  pub over-behind-code : pairAnswer 2 2 10 (but 4 0 1 4) (11 ∷ 99 ∷ 10 ∷ 11 ∷ []) (3 ∷ 99 ∷ 12 ∷ 10 ∷ []) ≡ pair.Refused (refusal 5 1)
   -- a row met as often as the mirror meets it, itself twice: nine sites at 103 and two at 102 are not marked, ten and one are
   pub met-unmarked : linesBuffer rows 22 18 1023 (all 396 0) (raised 194) (all 36 0) ≡ all 36 0
   pub met-marked : linesBuffer rows 22 18 1023 (all 396 0) (raised 196) (all 36 0) ≡ but 36 0 4 1

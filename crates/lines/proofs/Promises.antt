@@ -14,7 +14,7 @@ use Rattle.laws.proofs.Sums.{Shifted}
 use Rattle.laws.proofs.Tables.{getD-tabulate, tabulate-ext}
 use Rattle.laws.proofs.Sole.{Sole, sole}
 use Rattle.verdict.specs.declared.Verdict.the-variants as verdict
-use Rattle.verdict.proofs.Verdicts.{Tabled, RefusesCounting, refuses, over-at-six}
+use Rattle.verdict.proofs.Verdicts.{Tabled, RefusesCounting, refuses-counting}
 use Rattle.verdict.proofs.Answers.{counted-told}
 use Rattle.window.specs.Shape.{sitesOf}
 use Rattle.window.specs.View.{surveyed, seen, one, above}
@@ -46,16 +46,13 @@ module _ (lines : ℕ → ℕ → Lines) (w h full : ℕ) (mask frame marks : Li
   given = table lines w h full mask frame (length marks)
 
   -- refused: where the number is not 0 the marks are as they were, and where it is 0 so is the place. Where it is 6, over is at least 1 and
-  -- just the count of samples above full scale; else it is 0
+  -- just the count of surveyed samples above full scale; else it is 0
   pub refused : RefusesCounting (linesPaper lines w h full mask frame (length marks)) (countTo (sitesOf w h) (above full (seen mask frame)))
       (linesBuffer lines w h full mask frame marks ≡ marks)
   unfolding linesPaper linesBuffer
-  refused = (
-    refuses (linesVerdict lines w h full mask frame (length marks)) given refl (λ r e. rw e),
-    over-at-six (linesVerdict lines w h full mask frame (length marks)) given refl (one-counting w h full (seen mask frame)),
-  )
+  refused = refuses-counting (linesVerdict lines w h full mask frame (length marks)) given refl refl (one-counting w h full (seen mask frame)) (λ r e. rw e)
 
-  -- blind: what another frame holds at unsurveyed sites changes neither the answer, its count among it, nor any mark
+  -- blind: what another frame holds at unsurveyed sites changes nothing of the answer, no count either, and no mark
   pub blind : (other : List ℕ) → Agree mask frame other
       → (linesAnswer lines w h full mask frame (length marks) ≡ linesAnswer lines w h full mask other (length marks))
       × (linesBuffer lines w h full mask frame marks ≡ linesBuffer lines w h full mask other marks)

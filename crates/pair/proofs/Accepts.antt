@@ -18,10 +18,10 @@ use Rattle.window.proofs.Views.{surveyed-most}
 use Rattle.refusals.specs.Judge.{otherThan, framesVerdict}
 use Rattle.refusals.proofs.Ranges.{samplesTest}
 use Rattle.refusals.proofs.Judges.{codesTest}
+use Rattle.refusals.proofs.Frames.{Readable, frames-clear, clear-frames, frames-tabled}
 use Rattle.pair.specs.Figures.{spreadOf}
 use Rattle.pair.specs.Pair.{pairSpread, pairVerdict}
 use Rattle.pair.specs.declared.Spread.{Spread}
-use Rattle.refusals.proofs.Frames.{Readable, readable, clear-frames, frames-tabled}
 use Rattle.pair.proofs.Spreads.{counted, spread-is}
 
 module _ (w h full : ℕ) (mask first second : List ℕ) where
@@ -47,7 +47,7 @@ module _ (w h full : ℕ) (mask first second : List ℕ) where
   pub lent : framesVerdict w h full mask first second ≡ verdict.Clear
       → (length mask ≤ 16384) × (length first ≡ length mask) × (length second ≡ length mask)
   lent e =
-      let r = readable w h full mask first second e in
+      let r = frames-clear w h full mask first second e in
       let whole = r .of-first .of .masked in
       (omega (arith, sites-few w h, whole), r .of-first .framed ∙ sym whole, r .of-second .framed ∙ sym whole)
 
@@ -87,7 +87,7 @@ module _ {w h full : ℕ} {mask first second : List ℕ} where
   unfolding pairVerdict spreadOf
   accepted e =
       let both = then-clear _ _ e in
-      let frames = readable w h full mask first second (both .0) in
+      let frames = frames-clear w h full mask first second (both .0) in
       record {
         frames = frames;
         two = ltb-false _ 2 (unless _ _ (both .1));

@@ -17,12 +17,12 @@ use Rattle.verdict.specs.declared.Verdict.the-variants as verdict
 use Rattle.verdict.proofs.Answers.{was-accepted}
 use Rattle.window.specs.View.{one, seen}
 use Rattle.refusals.specs.Judge.{framesVerdict}
+use Rattle.refusals.proofs.Frames.{frames-clear}
 use Rattle.pair.specs.Figures.{spreadOf, figuresOf}
 use Rattle.pair.specs.Pair.{pairSpread, pairVerdict, pairFigures, pairAnswer, paperOf, pairPaper}
 use Rattle.pair.specs.declared.Spread.{Spread}
 use Rattle.pair.specs.declared.PairFigures.{PairFigures}
 use Rattle.pair.specs.declared.Pair.the-variants as pair
-use Rattle.refusals.proofs.Frames.{readable}
 use Rattle.pair.proofs.Accepts.{Accepted, accepted, measured-at}
 
 -- the six numbers as they are worked out
@@ -46,7 +46,7 @@ module _ (w h full : ℕ) (mask first second : List ℕ) where
   module _ (s : Spread) (clear : framesVerdict w h full mask first second ≡ verdict.Clear)
       (e : s ≡ spreadOf (length mask) (one mask) (seen mask first) (seen mask second)) where
     pub same-spread : s ≡ pairSpread w h mask first second
-    same-spread = e ∙ ap (λ (n : ℕ). spreadOf n (one mask) (seen mask first) (seen mask second)) (readable w h full mask first second clear .of-first .of .masked)
+    same-spread = e ∙ ap (λ (n : ℕ). spreadOf n (one mask) (seen mask first) (seen mask second)) (frames-clear w h full mask first second clear .of-first .of .masked)
 
     -- 7 is the verdict
     pub rest : refuseIf 7 0 (ltb (s .n) 2) ≡ pairVerdict w h full mask first second

@@ -23,7 +23,7 @@ use Rattle.exact.proofs.Quotients.{quotient-zero, quotient-mono, zero-bits}
 use Rattle.exact.proofs.Division.{exact-float}
 use Rattle.exact.proofs.Noises.{variance-ranged, variance-near, noise-near, noise-plain, noise-zero, root-most}
 use Rattle.verdict.specs.Verdict.{refusal, _⨟_, refuseIf}
-use Rattle.verdict.proofs.Verdicts.{Tabled, RefusesCounting, refuses, over-at-six, zero-clear, then-spare}
+use Rattle.verdict.proofs.Verdicts.{Tabled, RefusesCounting, refuses-counting, zero-clear, then-spare}
 use Rattle.verdict.proofs.Answers.{counted-told}
 use Rattle.window.specs.Shape.{sitesOf}
 use Rattle.window.specs.View.{seen, one, above}
@@ -53,14 +53,11 @@ module _ (w h full : ℕ) (mask first second : List ℕ) where
   given = table w h full mask first second
 
   -- refused: where the number is not 0 every other number but place and over is 0, and where it is 0 so is the place. Where it is 6, over is
-  -- at least 1 and just the count of samples above full scale, over both frames; else it is 0
+  -- at least 1 and just the count of surveyed samples above full scale, over both frames; else it is 0
   pub refused : RefusesCounting (pairPaper w h full mask first second) (countTo (sitesOf w h) (above full (seen mask first)) + countTo (sitesOf w h) (above full (seen mask second)))
       (pairPaper w h full mask first second .figures ≡ noFigures)
   unfolding pairPaper
-  refused = (
-    refuses (pairVerdict w h full mask first second) given refl (λ r e. rw e),
-    over-at-six (pairVerdict w h full mask first second) given refl (two-counting w h full (seen mask first) (seen mask second)),
-  )
+  refused = refuses-counting (pairVerdict w h full mask first second) given refl refl (two-counting w h full (seen mask first) (seen mask second)) (λ r e. rw e)
 
   -- spare: with document 01's 14, where P is 2^53 or more, put last, every verdict is the same (document 02, h)
   pub spare : pairVerdict w h full mask first second ⨟ refuseIf 14 0 (leb (2 ^ 53) (pairSpread w h mask first second .p))
@@ -147,7 +144,7 @@ module _ (w h full : ℕ) (mask first second : List ℕ) (figures : PairFigures)
   pub noise-none : figures .p ≡ 0 → figures .noise ≡ ofBits binary64 0
   noise-none z = rw (are, sym (whole-numbers .0) ∙ z) (noise-zero _ (measured passed .some) ∙ sym zero-bits)
 
--- blind: what a frame holds at a site that is not surveyed changes no answer, its count among it
+-- blind: what a frame holds at a site that is not surveyed changes no answer, no count either
 pub blind : (w h full : ℕ) {mask first first′ second second′ : List ℕ} → Agree mask first first′ → Agree mask second second′
     → pairAnswer w h full mask first second ≡ pairAnswer w h full mask first′ second′
 unfolding pairAnswer pairVerdict framesVerdict

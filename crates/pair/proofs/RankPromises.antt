@@ -14,13 +14,13 @@ use Rattle.window.specs.Shape.{sitesOf}
 use Rattle.window.specs.View.{one}
 use Rattle.window.proofs.Views.{Drifted, seen-most, seen-shift}
 use Rattle.refusals.proofs.Judges.{Framed}
+use Rattle.refusals.proofs.Frames.{Readable}
 use Rattle.pair.specs.Figures.{spreadOf, figuresOf}
 use Rattle.pair.specs.Pair.{pairSpread, pairFigures, pairAnswer}
 use Rattle.pair.specs.declared.Spread.{Spread}
 use Rattle.pair.specs.declared.PairFigures.{PairFigures}
 use Rattle.pair.specs.declared.Pair.the-variants.{Measured}
 use Rattle.pair.proofs.Spreads.{spread-swap, spread-shift}
-use Rattle.refusals.proofs.Frames.{Readable}
 use Rattle.pair.proofs.Accepts.{Accepted, Measurable, measured, clear-pair}
 use Rattle.pair.proofs.Answers.{accepted-is, answer-is}
 

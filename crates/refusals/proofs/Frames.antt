@@ -29,10 +29,10 @@ module _ (w h full : ℕ) (mask first second : List ℕ) where
   abbrev asked : List ℕ → ℕ → Verdict
   asked frame over = samplesOf over (ranged w h full (length mask) (length frame)) full (seen mask frame)
 
-  abbrev pub views : List (ℕ → ℕ)
+  abbrev views : List (ℕ → ℕ)
   views = seen mask first ∷ seen mask second ∷ []
 
-  abbrev pub lengths : Verdict
+  abbrev lengths : Verdict
   lengths = lengthOf w h (length first) ⨟ lengthOf w h (length second)
 
   long : lengths ≡ verdict.Clear → (length first ≡ sitesOf w h) × (length second ≡ sitesOf w h)
@@ -41,10 +41,10 @@ module _ (w h full : ℕ) (mask first second : List ℕ) where
       (length-clear (sitesOf w h) (length first) (both .0), length-clear (sitesOf w h) (length second) (both .1))
 
   -- 6 is asked of whole buffers: 4 comes first
-  pub judged : (over : ℕ) → over ≡ counted first + counted second
+  pub frames-judged : (over : ℕ) → over ≡ counted first + counted second
       → maskVerdict w h full verdict.Clear mask lengths ⨟ asked first over ⨟ asked second over ≡ framesVerdict w h full mask first second
   unfolding framesVerdict
-  judged over p =
+  frames-judged over p =
       then-same (maskVerdict w h full verdict.Clear mask lengths) (λ e.
       let masked = mask-clear w h full mask e in
       let both = long (masked .1) in
@@ -52,9 +52,9 @@ module _ (w h full : ℕ) (mask first second : List ℕ) where
       λ n l. ranged-whole w h full (length mask) n (masked .2 .scaled) (masked .2 .masked) l in
       rw (p, whole (length first) (both .0), whole (length second) (both .1)) (range-two w h full (seen mask first) (seen mask second)))
 
-  pub readable : framesVerdict w h full mask first second ≡ verdict.Clear → Readable w h full mask first second
+  pub frames-clear : framesVerdict w h full mask first second ≡ verdict.Clear → Readable w h full mask first second
   unfolding framesVerdict
-  readable e =
+  frames-clear e =
       let all = then-clear _ _ e in
       let masked = mask-clear w h full mask (all .0) in
       let both = long (masked .1) in

@@ -60,7 +60,7 @@ module _ (over n full : ℕ) where
   samples-tabled [] = tabled-none
   samples-tabled (view ∷ views) = tabled-then (tabled (testFirst 6 over n (above full view)) []) (samples-tabled views)
 
-  -- where one of them applies something is over
+  -- each has the count that is handed in, and applies only where that is at least 1
   counting : (views : List (ℕ → ℕ)) → overIn n full views ≤ over → Counting over (rangeTests views)
   unfolding overIn
   counting [] l = no-six
@@ -83,31 +83,31 @@ module _ (w h full : ℕ) where
   overFull view = countTo (sitesOf w h) (above full view)
 
   -- what is counted over all frames is that, of one frame and of two
-  one-over : (view : ℕ → ℕ) → overIn (sitesOf w h) full (view ∷ []) ≡ overFull view
+  over-of-one : (view : ℕ → ℕ) → overIn (sitesOf w h) full (view ∷ []) ≡ overFull view
   unfolding overIn
-  one-over view = add-zero (overFull view)
+  over-of-one view = add-zero (overFull view)
 
-  two-over : (first second : ℕ → ℕ) → overIn (sitesOf w h) full (first ∷ second ∷ []) ≡ overFull first + overFull second
+  over-of-two : (first second : ℕ → ℕ) → overIn (sitesOf w h) full (first ∷ second ∷ []) ≡ overFull first + overFull second
   unfolding overIn
-  two-over first second = ap (λ (k : ℕ). overFull first + k) (add-zero (overFull second))
+  over-of-two first second = ap (λ (k : ℕ). overFull first + k) (add-zero (overFull second))
 
   pub one-counting : (view : ℕ → ℕ) → Counting (overFull view) (allTests (view ∷ []))
-  one-counting view = subst (λ (k : ℕ). Counting k (allTests (view ∷ []))) (one-over view) (all-counting (view ∷ []))
+  one-counting view = subst (λ (k : ℕ). Counting k (allTests (view ∷ []))) (over-of-one view) (all-counting (view ∷ []))
 
   pub two-counting : (first second : ℕ → ℕ) → Counting (overFull first + overFull second) (allTests (first ∷ second ∷ []))
   two-counting first second =
-      subst (λ (k : ℕ). Counting k (allTests (first ∷ second ∷ []))) (two-over first second) (all-counting (first ∷ second ∷ []))
+      subst (λ (k : ℕ). Counting k (allTests (first ∷ second ∷ []))) (over-of-two first second) (all-counting (first ∷ second ∷ []))
 
   -- what `samples` asks of one frame, and of two, is the range check
   pub range-one : (view : ℕ → ℕ) → samplesOf (overFull view) (sitesOf w h) full view ≡ rangeOf w h full (view ∷ [])
   unfolding samplesIn
-  range-one view = rw (one-over view) (sym (then-end _))
+  range-one view = rw (over-of-one view) (sym (then-end _))
 
   pub range-two : (first second : ℕ → ℕ)
       → samplesOf (overFull first + overFull second) (sitesOf w h) full first ⨟ samplesOf (overFull first + overFull second) (sitesOf w h) full second
       ≡ rangeOf w h full (first ∷ second ∷ [])
   unfolding samplesIn
-  range-two first second = rw (two-over first second, then-end)
+  range-two first second = rw (over-of-two first second, then-end)
 
 -- what `samples` answers with a count that is known
 pub samples-of : (n full : ℕ) (view : ℕ → ℕ) {r : Verdict} {over count : ℕ} → r ≡ samplesOf over n full view → over ≡ count → r ≡ samplesOf count n full view

@@ -14,7 +14,7 @@ use Rattle.laws.proofs.Sole.{Sole, sole}
 use Rattle.verdict.specs.Verdict.{ifClear}
 use Rattle.verdict.specs.Answer.{answerOf}
 use Rattle.verdict.specs.declared.Verdict.the-variants as verdict
-use Rattle.verdict.proofs.Verdicts.{Tabled, RefusesCounting, refuses, over-at-six}
+use Rattle.verdict.proofs.Verdicts.{Tabled, RefusesCounting, refuses-counting}
 use Rattle.verdict.proofs.Answers.{counted-told}
 use Rattle.window.specs.Shape.{sitesOf}
 use Rattle.window.specs.View.{seenAt, seen, above}
@@ -35,7 +35,7 @@ module _ (w h full t : ℕ) (mask frame out : List ℕ) where
   pub only : Sole (findAnswer w h full t mask frame (length out)) × Sole (findMask w h full t mask frame out)
   only = (sole _, sole _)
 
-  -- blind: what the frame holds at sites that are not surveyed changes neither the answer, its counts among it, nor the mask
+  -- blind: what the frame holds at sites that are not surveyed changes nothing of the answer, no count either, and nothing of the mask
   pub blind : (other : List ℕ) → Agree mask frame other
       → (findAnswer w h full t mask frame (length out) ≡ findAnswer w h full t mask other (length out))
       × (findMask w h full t mask frame out ≡ findMask w h full t mask other out)
@@ -51,15 +51,12 @@ module _ (w h full t : ℕ) (mask frame out : List ℕ) where
   pub given : Tabled (findVerdict w h full t mask frame (length out)) (find-tests w h full t mask frame (length out))
   given = find-table w h full t mask frame (length out)
 
-  -- refused: where the number is not 0 the count is 0 and the mask is as it was, and where it is 0 so is the place. Where it is 6, over is
-  -- at least 1 and just the count of samples above full scale; else it is 0
+  -- refused: where the number is not 0 the count of found sites is 0 and the mask is as it was, and where it is 0 so is the place. Where it is 6, over is
+  -- at least 1 and just the count of surveyed samples above full scale; else it is 0
   pub refused : RefusesCounting (findPaper w h full t mask frame (length out)) (countTo (sitesOf w h) (above full (seen mask frame)))
       ((findPaper w h full t mask frame (length out) .figures ≡ 0) × (findMask w h full t mask frame out ≡ out))
   unfolding findPaper findMask
-  refused = (
-    refuses (findVerdict w h full t mask frame (length out)) given refl (λ r e. rw e (refl, refl)),
-    over-at-six (findVerdict w h full t mask frame (length out)) given refl (one-counting w h full (seen mask frame)),
-  )
+  refused = refuses-counting (findVerdict w h full t mask frame (length out)) given refl refl (one-counting w h full (seen mask frame)) (λ r e. rw e (refl, refl))
 
 -- a threshold above 0 is taken as it is
 pub used-as-given : (t : ℕ) → 0 < t → usedThreshold t ≡ t

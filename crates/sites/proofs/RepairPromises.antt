@@ -14,7 +14,7 @@ use Rattle.laws.proofs.Sums.{sum-zero}
 use Rattle.laws.proofs.Tables.{length-tabulate, getD-tabulate, tabulated}
 use Rattle.laws.proofs.Sole.{Sole, sole}
 use Rattle.verdict.specs.declared.Verdict.the-variants as verdict
-use Rattle.verdict.proofs.Verdicts.{Tabled, RefusesCounting, refuses, over-at-six}
+use Rattle.verdict.proofs.Verdicts.{Tabled, RefusesCounting, refuses-counting}
 use Rattle.verdict.proofs.Answers.{counted-told}
 use Rattle.window.specs.Shape.{sitesOf}
 use Rattle.window.specs.View.{seenAt, seen, one, above}
@@ -39,7 +39,7 @@ module _ (w h full : ℕ) (mask frame outFrame outMask : List ℕ) where
       × Sole (repairMask w h full mask frame (length outFrame) outMask)
   only = (sole _, sole _, sole _)
 
-  -- blind: what the frame holds at sites that are not surveyed changes neither the answer, its counts among it, nor the mask
+  -- blind: what the frame holds at sites that are not surveyed changes nothing of the answer, no count either, and nothing of the mask
   pub blind : (other : List ℕ) → Agree mask frame other
       → (repairAnswer w h full mask frame (length outFrame) (length outMask) ≡ repairAnswer w h full mask other (length outFrame) (length outMask))
       × (repairMask w h full mask frame (length outFrame) outMask ≡ repairMask w h full mask other (length outFrame) outMask)
@@ -55,17 +55,14 @@ module _ (w h full : ℕ) (mask frame outFrame outMask : List ℕ) where
   pub given : Tabled (repairVerdict w h full mask frame (length outFrame) (length outMask)) (repair-tests w h full mask frame (length outFrame) (length outMask))
   given = repair-table w h full mask frame (length outFrame) (length outMask)
 
-  -- refused: where the number is not 0 the count is 0 and both buffers are as they were, and where it is 0 so is the place. Where it is 6,
-  -- over is at least 1 and just the count of samples above full scale; else it is 0
+  -- refused: where the number is not 0 the count of filled sites is 0 and both buffers are as they were, and where it is 0 so is the place. Where it is 6,
+  -- over is at least 1 and just the count of surveyed samples above full scale; else it is 0
   pub refused : RefusesCounting (repairPaper w h full mask frame (length outFrame) (length outMask)) (countTo (sitesOf w h) (above full (seen mask frame)))
       ((repairPaper w h full mask frame (length outFrame) (length outMask) .figures ≡ 0)
       × (repairFrame w h full mask frame outFrame (length outMask) ≡ outFrame)
       × (repairMask w h full mask frame (length outFrame) outMask ≡ outMask))
   unfolding repairPaper repairFrame repairMask
-  refused = (
-    refuses (repairVerdict w h full mask frame (length outFrame) (length outMask)) given refl (λ r e. rw e (refl, refl, refl)),
-    over-at-six (repairVerdict w h full mask frame (length outFrame) (length outMask)) given refl (one-counting w h full (seen mask frame)),
-  )
+  refused = refuses-counting (repairVerdict w h full mask frame (length outFrame) (length outMask)) given refl refl (one-counting w h full (seen mask frame)) (λ r e. rw e (refl, refl, refl))
 
 -- what an accepted call answers and leaves behind
 module _ (w h full : ℕ) (mask frame outFrame outMask : List ℕ) (accepted : repairVerdict w h full mask frame (length outFrame) (length outMask) ≡ verdict.Clear) where

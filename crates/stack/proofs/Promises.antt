@@ -21,7 +21,7 @@ use Rattle.verdict.specs.Verdict.{refusal, _⨟_, refuseIf, ifClear}
 use Rattle.verdict.specs.declared.Refusal.{Refusal}
 use Rattle.verdict.specs.declared.Verdict.{Verdict}
 use Rattle.verdict.specs.declared.Verdict.the-variants as verdict
-use Rattle.verdict.proofs.Verdicts.{Tabled, Refuses, RefusesCounting, refuses, over-at-six, then-spare}
+use Rattle.verdict.proofs.Verdicts.{Tabled, Refuses, RefusesCounting, refuses, refuses-counting, then-spare}
 use Rattle.verdict.proofs.Answers.{paper-told, counted-told}
 use Rattle.window.specs.Shape.{sitesOf}
 use Rattle.window.specs.View.{surveyed, seen, one, above}
@@ -56,15 +56,12 @@ module _ (w h full k : ℕ) (mask frame sums squares : List ℕ) where
   pub add-given : Tabled (addVerdict w h full k mask frame sums squares) (adds.tests w h full k mask frame sums squares)
   add-given = adds.table w h full k mask frame sums squares
 
-  -- refused: where the number is not 0 the count is 0 and both buffers are as they were, and where it is 0 so is the place. Where it is 6,
-  -- over is at least 1 and just the count of samples above full scale; else it is 0
+  -- refused: where the number is not 0 the frame count that is answered is 0 and both buffers are as they were, and where it is 0 so is the place. Where it is 6,
+  -- over is at least 1 and just the count of surveyed samples above full scale; else it is 0
   pub add-refused : RefusesCounting (addPaper w h full k mask frame sums squares) (countTo (sitesOf w h) (above full (seen mask frame)))
       ((addPaper w h full k mask frame sums squares .figures ≡ 0) × (addSums w h full k mask frame sums squares ≡ sums) × (addSquares w h full k mask frame sums squares ≡ squares))
   unfolding addPaper addSums addSquares
-  add-refused = (
-    refuses (addVerdict w h full k mask frame sums squares) add-given refl (λ r e. rw e (refl, refl, refl)),
-    over-at-six (addVerdict w h full k mask frame sums squares) add-given refl (one-counting w h full (seen mask frame)),
-  )
+  add-refused = refuses-counting (addVerdict w h full k mask frame sums squares) add-given refl refl (one-counting w h full (seen mask frame)) (λ r e. rw e (refl, refl, refl))
 
   -- other sites' sums stay, whatever is answered
   pub add-keeps : (i : ℕ) → (getD mask i 0 ≡ 0 → ⊥)
@@ -79,7 +76,7 @@ module _ (w h full k : ℕ) (mask frame sums squares : List ℕ) where
       by verdict.Clear = (added-keeps (seen mask frame) sums i none, added-keeps (squared (seen mask frame)) squares i (rw none))
       by (verdict.Refused r) = (refl, refl)
 
-  -- blind: what a frame or the sums hold at unsurveyed sites changes neither the answer, its counts among it, nor what is written at surveyed ones
+  -- blind: what a frame or the sums hold at unsurveyed sites changes nothing of the answer, no count either, nor what is written at surveyed ones
   module _ (frame′ sums′ squares′ : List ℕ) (f : Agree mask frame frame′) (s : Agree mask sums sums′) (q : Agree mask squares squares′) where
     same-verdict : addVerdict w h full k mask frame sums squares ≡ addVerdict w h full k mask frame′ sums′ squares′
     unfolding addVerdict frameVerdict

@@ -15,7 +15,7 @@ use Rattle.verdict.specs.Verdict.{refusal, _⨟_, refuseIf, numberOf, ifClear}
 use Rattle.verdict.specs.declared.Refusal.{Refusal}
 use Rattle.verdict.specs.declared.Verdict.{Verdict}
 use Rattle.verdict.specs.declared.Verdict.the-variants as verdict
-use Rattle.verdict.proofs.Verdicts.{Test, Tabled, RefusesCounting, refuses, over-at-six, its-own, never-six, inTurn, tabled, tabled-then, then-same, then-clear}
+use Rattle.verdict.proofs.Verdicts.{Test, Tabled, RefusesCounting, refuses-counting, its-own, never-six, inTurn, tabled, tabled-then, then-same, then-clear}
 use Rattle.verdict.proofs.Answers.{counted-told, was-accepted}
 use Rattle.window.specs.Shape.{badSides}
 use Rattle.window.specs.View.{above, seen}
@@ -91,15 +91,12 @@ module _ (s : List ℕ) where
           left-is (widthOf s) (heightOf s) (fullOf s) (blackOf s) (maskOf s) (firstOf s) (secondOf s) (l .even) (l .mask) (l .first) (l .second)
 
   -- refused: where the number is not 0 every other number but place and over is 0, and where it is 0 so is the place. Where it is 6, over is
-  -- at least 1 and just the count of samples above full scale, over both frames; else it is 0
+  -- at least 1 and just the count of surveyed samples above full scale, over both frames; else it is 0
   pub refused : RefusesCounting (jobPaper s)
       (countTo (sitesIn s) (above (fullOf s) (seen (maskOf s) (firstOf s))) + countTo (sitesIn s) (above (fullOf s) (seen (maskOf s) (secondOf s))))
       (jobPaper s .figures ≡ noFigures)
   unfolding jobPaper fieldsTests
-  refused = (
-    refuses (jobVerdict s) given refl (λ r e. rw e),
-    over-at-six (jobVerdict s) given refl (two-counting (widthOf s) (heightOf s) (fullOf s) (seen (maskOf s) (firstOf s)) (seen (maskOf s) (secondOf s))),
-  )
+  refused = refuses-counting (jobVerdict s) given refl refl (two-counting (widthOf s) (heightOf s) (fullOf s) (seen (maskOf s) (firstOf s)) (seen (maskOf s) (secondOf s))) (λ r e. rw e)
 
   -- pairs-six: a 6 of the job is the pair's, with its place and its count, since the dark level sees a frame that the pair has accepted
   pub pairs-six : (r : Refusal) → jobVerdict s ≡ verdict.Refused r → r .number ≡ 6

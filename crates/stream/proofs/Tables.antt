@@ -18,9 +18,9 @@ use Rattle.refusals.specs.Judge.{shapeOf, otherThan, codesOf, samplesIn, rangeO
 use Rattle.refusals.proofs.Chains.{clear-shape, right-length, clear-length, clear-codes}
 use Rattle.refusals.proofs.Ranges.{none, more, clear-samples, samplesTest}
 use Rattle.refusals.proofs.Judges.{codesTest, Framed}
+use Rattle.refusals.proofs.Frames.{frames-clear}
 use Rattle.pair.specs.Figures.{spreadOf}
 use Rattle.pair.specs.Pair.{pairSpread, pairVerdict}
-use Rattle.refusals.proofs.Frames.{readable}
 use Rattle.dark.specs.Dark.{darkVerdict}
 use Rattle.stream.specs.Fields.{Field, past, wordAt, fieldAt, fieldsAt, pastAll}
 use Rattle.stream.specs.Stream.{sideFields, bodyFields, wideSides, faultsOf}
@@ -112,14 +112,14 @@ module _ (w h full black : ℕ) (mask first second : List ℕ) where
           then-end,
         )
 
-    -- so after an accepted pair the dark level gives no 6
+    -- so after an accepted pair all that is left of the dark level is its 3, and it gives no 6
     pub dark-left : pairVerdict w h full mask first second ≡ Clear → darkVerdict w h full black mask first ≡ refuseIf 3 0 (ltb full black)
     unfolding pairVerdict darkVerdict spreadOf
     dark-left e =
         let frames = then-clear _ _ e in
         let two = ltb-false (sumTo (sitesOf w h) (one mask)) 2 (unless _ _ (frames .1)) in
         let some = clear-unless (refusal 7 0) (ne-eqb (sumTo (sitesOf w h) (one mask)) 0 (λ z. omega arith)) in
-        ap₂ (λ (a b : Verdict). a ⨟ b) (own (readable w h full mask first second (frames .0) .of-first)) some ∙ then-end _
+        ap₂ (λ (a b : Verdict). a ⨟ b) (own (frames-clear w h full mask first second (frames .0) .of-first)) some ∙ then-end _
 
     pub left-is : pairVerdict w h full mask first second ⨟ darkVerdict w h full black mask first ≡ inTurn (scaleTest full) leftTests
     unfolding refuseFirst samplesIn

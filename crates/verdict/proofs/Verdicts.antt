@@ -250,17 +250,17 @@ abbrev pub sixes : List Test → List Test
 sixes [] = []
 sixes (t ∷ ts) = cond (eqb (t .refusal .number) 6) (t ∷ sixes ts) (sixes ts)
 
--- no other test has a count
-abbrev pub uncounted : List Test → Bool
-uncounted [] = true
-uncounted (t ∷ ts) = cond (eqb (t .refusal .number) 6) true (eqb (t .refusal .over) 0) && uncounted ts
+-- no test of another number has a count
+abbrev pub othersUncounted : List Test → Bool
+othersUncounted [] = true
+othersUncounted (t ∷ ts) = cond (eqb (t .refusal .number) 6) true (eqb (t .refusal .over) 0) && othersUncounted ts
 
 -- each test of a table has this count, and applies only where it is at least 1
 pub data Counting (samples : ℕ) : List Test → Type 0 where
   no-six : Counting samples []
   also : {t : Test} {ts : List Test} → t .refusal .over ≡ samples → (t .applies ≡ true → 1 ≤ samples) → Counting samples ts → Counting samples (t ∷ ts)
 
--- what a table gives at 6 is given by its tests of 6
+-- what a table gives at 6 has the count that its tests of 6 have, and that is at least 1
 given-six : (ts : List Test) {r : Refusal} {samples : ℕ} → Counting samples (sixes ts) → Given ts r → r .number ≡ 6 → (r .over ≡ samples) × (1 ≤ samples)
 given-six (t ∷ ts) {samples = samples} c (here a) e = by (rw (eq-eqb (t .refusal .number) 6 e) at c)
   where
@@ -272,15 +272,16 @@ given-six (t ∷ ts) {samples = samples} c (later a g) e = given-six ts (by (eqb
     by true (also same some rest) = rest
     by false c = c
 
-given-other : (ts : List Test) {r : Refusal} → uncounted ts ≡ true → Given ts r → (r .number ≡ 6 → ⊥) → r .over ≡ 0
+-- and what it gives at another number counts nothing
+given-other : (ts : List Test) {r : Refusal} → othersUncounted ts ≡ true → Given ts r → (r .number ≡ 6 → ⊥) → r .over ≡ 0
 given-other (t ∷ ts) e (here a) other =
     eqb-true (t .refusal .over) 0
-    (rw (ne-eqb (t .refusal .number) 6 other) at (and-true (cond (eqb (t .refusal .number) 6) true (eqb (t .refusal .over) 0)) (uncounted ts) e .0))
+    (rw (ne-eqb (t .refusal .number) 6 other) at (and-true (cond (eqb (t .refusal .number) 6) true (eqb (t .refusal .over) 0)) (othersUncounted ts) e .0))
 given-other (t ∷ ts) e (later a g) other =
-    given-other ts (and-true (cond (eqb (t .refusal .number) 6) true (eqb (t .refusal .over) 0)) (uncounted ts) e .1) g other
+    given-other ts (and-true (cond (eqb (t .refusal .number) 6) true (eqb (t .refusal .over) 0)) (othersUncounted ts) e .1) g other
 
 -- THE LAW: of any verdict that a table says in which 6 alone counts
-pub over-at-six : {ts : List Test} {samples : ℕ} (v : Verdict) → Tabled v ts → uncounted ts ≡ true → Counting samples (sixes ts)
+pub over-at-six : {ts : List Test} {samples : ℕ} (v : Verdict) → Tabled v ts → othersUncounted ts ≡ true → Counting samples (sixes ts)
     → OverAtSix (numberOf v) (overOf v) samples
 over-at-six Clear t u c = record { at-six = λ e. absurd (omega arith); else-none = λ f. refl }
 over-at-six {ts} (Refused r) t u c =
@@ -290,8 +291,14 @@ over-at-six {ts} (Refused r) t u c =
       else-none = given-other ts u given;
     }
 
+-- and so demand 1, of the numbers that it tells
+pub refuses-counting : {ts : List Test} {samples : ℕ} (v : Verdict) {Untouched : Type 0}
+    → Tabled v ts → numbered ts ≡ true → othersUncounted ts ≡ true → Counting samples (sixes ts) → ((r : Refusal) → v ≡ Refused r → Untouched)
+    → Refuses (numberOf v) (placeOf v) Untouched × OverAtSix (numberOf v) (overOf v) samples
+refuses-counting v t n o c u = (refuses v t n u, over-at-six v t o c)
+
 -- so a table that has no 6 gives none, and counts nothing
-module _ {ts : List Test} (v : Verdict) (t : Tabled v ts) (u : uncounted ts ≡ true) (none : sixes ts ≡ []) where
+module _ {ts : List Test} (v : Verdict) (t : Tabled v ts) (u : othersUncounted ts ≡ true) (none : sixes ts ≡ []) where
   uncounting : OverAtSix (numberOf v) (overOf v) 0
   uncounting = over-at-six {samples = 0} v t u (rw none no-six)
 

@@ -5,7 +5,7 @@ use native.Mathlib.Omega.{arith}
 use borrow.Author.Needs.{needs}
 use Rattle.verdict.proofs.Verdicts.{then-of}
 use Rattle.refusals.proofs.Judges.{mask-of}
-use Rattle.refusals.proofs.Frames.{judged}
+use Rattle.refusals.proofs.Frames.{frames-judged}
 use Rattle.refusals.proofs.judge_frames.Statement.{statement}
 use Rattle.refusals.proofs.judge_frames.Tie as tie
 
@@ -52,7 +52,7 @@ returns c =
     then-of (c .then3 .ensures)
     (mask-of _ _ _ _ (masked .judge-mask .ensures) refl (then-of (lengths .then .ensures) (lengths .before .before .length .ensures) (lengths .before .length2 .ensures)))
     (then-of (c .before .then2 .ensures) (in-first .samples .ensures) (in-second .samples2 .ensures))
-    ∙ judged _ _ _ _ _ _ _ (ap₂ (λ (x y : ℕ). x + y) (counted .before .over .ensures .0) (counted .over2 .ensures .0))
+    ∙ frames-judged _ _ _ _ _ _ _ (ap₂ (λ (x y : ℕ). x + y) (counted .before .over .ensures .0) (counted .over2 .ensures .0))
 
 pub judge-frames-spec : {M : Type 1} → statement M
 judge-frames-spec =

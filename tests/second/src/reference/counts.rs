@@ -96,7 +96,7 @@ const SLIPS: &[(&str, Slip)] = &[
     ("in 15 bits", |lent| lent.above_at(0) % (1 << 15)),
 ];
 
-/// Those that a call on two frames alone can make.
+/// Those that only a call on two frames can make.
 const SLIPS_WITH_TWO_FRAMES: &[(&str, Slip)] = &[
     ("first frame alone", |lent| of_frame(lent, 0)),
     ("second frame alone", |lent| of_frame(lent, 1)),
