@@ -254,6 +254,25 @@ pub box-turned : (a b l r : ℕ) (g : ℕ → ℕ → ℕ) → sumBox a b l r g 
 unfolding sumBox sumIn
 box-turned a b l r g = sum-swap (b - a) (r - l) (λ (u v : ℕ). g (a + u) (l + v))
 
+-- a range and a box by running totals. Of a range they are the sums from the start
+pub in-totals : (a b : ℕ) (f : ℕ → ℕ) → a ≤ b → sumTo b f - sumTo a f ≡ sumIn a b f
+in-totals a b f h = omega (arith, range a b f h)
+
+-- which never fall
+pub totals-grow : (a b : ℕ) (f : ℕ → ℕ) → a ≤ b → sumTo a f ≤ sumTo b f
+totals-grow a b f h = omega (arith, range a b f h)
+
+-- of a box, totals along a row of what totals down the columns differ by
+pub box-totals : (a b l r : ℕ) (g : ℕ → ℕ → ℕ) → a ≤ b → l ≤ r
+    → (sumTo r (λ (v : ℕ). sumTo b (λ (u : ℕ). g u v) - sumTo a (λ (u : ℕ). g u v))
+    - sumTo l (λ (v : ℕ). sumTo b (λ (u : ℕ). g u v) - sumTo a (λ (u : ℕ). g u v)))
+    ≡ sumBox a b l r g
+unfolding sumBox
+box-totals a b l r g high wide =
+    in-totals l r _ wide
+    ∙ in-ext l r _ (λ (v : ℕ). sumIn a b (λ (u : ℕ). g u v)) (λ v _ _. in-totals a b (λ (u : ℕ). g u v) high)
+    ∙ sym (box-turned a b l r g)
+
 module _ (a b l r : ℕ) where
   pub box-le : (B : ℕ) (f : ℕ → ℕ → ℕ) → ((u v : ℕ) → a ≤ u → u < b → l ≤ v → v < r → f u v ≤ B) → sumBox a b l r f ≤ (b - a) * ((r - l) * B)
   unfolding sumBox

@@ -1,12 +1,13 @@
 -- The laws of `tabulate`, and the invariant of a loop that writes a buffer.
 use Prim.Native.Nat.{ℕ, zero, suc, _+_, _-_, _<_, _≤_, suc-le-suc, zero-le}
 use mathlib.Core.List.{List, [], _∷_, _++_, append-nil}
+use mathlib.Core.Logic.{_⊎_, ⊎-elim}
 use mathlib.Core.Path.{_≡_, refl, sym, ap, _∙_, subst}
-use native.Mathlib.Nat.{not-suc-le-zero, le-of-suc-le-suc, zero-lt-suc}
+use native.Mathlib.Nat.{not-suc-le-zero, le-of-suc-le-suc, zero-lt-suc, lt-irrefl, eq-or-lt-of-le}
 use native.Mathlib.Numerals.{add-one}
 use native.Mathlib.Omega.{arith}
 use lib.ListN.{length, set, drop, getD, drop-of-length-le, length-set, List·getD-append}
-use lib.Seq.{getD-append-add, getD-drop}
+use lib.Seq.{getD-append-add, getD-drop, getD-set-same, getD-set-other}
 use Rattle.laws.specs.Table.{tabulate}
 
 pub length-tabulate : (n : ℕ) (f : ℕ → ℕ) → length (tabulate n f) ≡ n
@@ -101,3 +102,27 @@ module _ {f : ℕ → ℕ} {d l : List ℕ} {i : ℕ} where
       ∙ getD-append-add (tabulate i f) (drop i d) (j - i) 0
       ∙ getD-drop i d (j - i) 0
       ∙ sym (at d)
+
+-- A buffer that was d and is l now, in a loop that stores f 0, f 1, .. from `at` on: the next to be stored is f i.
+pub record Storing (f : ℕ → ℕ) (d l : List ℕ) (at i : ℕ) : Type 0 where
+  pub long : length l ≡ length d
+  pub before : (j : ℕ) → j < at → getD l j 0 ≡ getD d j 0
+  pub stored : (j : ℕ) → j < i → getD l (at + j) 0 ≡ f j
+
+pub storing-none : (f : ℕ → ℕ) (d : List ℕ) (at : ℕ) → Storing f d d at 0
+storing-none f d at = record { long = refl; before = λ j _. refl; stored = λ j l. absurd (not-suc-le-zero l) }
+
+pub storing-more : {f : ℕ → ℕ} {d l : List ℕ} {at i : ℕ} (v : ℕ) → Storing f d l at i → at + i < length l → v ≡ f i
+    → Storing f d (set l (at + i) v) at (i + 1)
+storing-more {f} {d} {l} {at} {i} v r h e =
+    record {
+      long = length-set l (at + i) v ∙ r .long;
+      before = λ j b. getD-set-other l (at + i) j v 0 (λ q. lt-irrefl j (omega arith)) ∙ r .before j b;
+      stored = λ j b. ⊎-elim
+          (λ q. rw q (getD-set-same l (at + i) v 0 h ∙ e))
+          (λ b. getD-set-other l (at + i) (at + j) v 0 (λ q. lt-irrefl j (omega arith)) ∙ r .stored j b)
+          (last-or-before j b);
+    }
+  where
+    last-or-before : (j : ℕ) → j < i + 1 → (j ≡ i) ⊎ (j < i)
+    last-or-before j b = eq-or-lt-of-le (omega arith)

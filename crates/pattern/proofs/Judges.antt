@@ -8,6 +8,7 @@ use lib.Dec.{ltb}
 use lib.ListN.{length, getD}
 use borrow.Author.Tests.{eqb-true, lt-ltb, ltb-false, ne-eqb, not-false}
 use Rattle.laws.specs.First.{someTo}
+use Rattle.laws.specs.Table.{held}
 use Rattle.laws.proofs.Firsts.{first-nowhere, first-ext}
 use Rattle.verdict.specs.Verdict.{_⨟_, refuseIf}
 use Rattle.verdict.specs.declared.Refusal.{Refusal}
@@ -24,7 +25,7 @@ use Rattle.refusals.proofs.Ranges.{in-range}
 use Rattle.refusals.proofs.Judges.{codesTest, mask-clear, mask-tabled}
 use Rattle.pattern.specs.Lines.{Lines, lineTotal}
 use Rattle.pattern.specs.Pattern.{unsurveyed, patternVerdict, patternFigures, patternAnswer, paperOf, patternPaper}
-use Rattle.pattern.specs.Walk.{lined, lineOf, held, Accepted}
+use Rattle.pattern.specs.Walk.{lined, lineOf, Accepted}
 use Rattle.pattern.specs.declared.Figures.{Figures}
 use Rattle.pattern.specs.declared.Pattern.the-variants.{Measured, Refused}
 use Rattle.pattern.proofs.Totals.{count-is, total-ext}

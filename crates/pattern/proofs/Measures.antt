@@ -6,13 +6,13 @@ use mathlib.Core.Path.{_≡_, sym, ap, ap₂, _∙_}
 use native.Mathlib.Nat.{suc-mul, mul-assoc, mul-le-mul-right}
 use native.Mathlib.Omega.{arith}
 use lib.ListN.{length}
-use Rattle.laws.specs.Table.{tabulate}
+use Rattle.laws.specs.Table.{held, tabulate}
 use Rattle.laws.proofs.Cases.{times-le}
 use Rattle.laws.proofs.Tables.{length-tabulate, getD-tabulate}
 use Rattle.pattern.specs.Lines.{lineTotal}
 use Rattle.pattern.specs.Figures.{figuresOf}
 use Rattle.pattern.specs.Pattern.{patternFigures}
-use Rattle.pattern.specs.Walk.{lined, lineOf, held, Possible, Accepted}
+use Rattle.pattern.specs.Walk.{lined, lineOf, Possible, Accepted}
 use Rattle.pattern.proofs.Totals.{passed, passed-le, whole, count-is, long-is, side-le, total-le}
 use Rattle.pattern.proofs.Figuring.{figures-ext}
 

@@ -9,7 +9,7 @@ use lib.ListN.{length, List·getD-eq-default}
 use borrow.Author.Tests.{le-ltb}
 use Rattle.laws.specs.First.{someTo}
 use Rattle.laws.specs.Signed.{apart}
-use Rattle.laws.specs.Table.{tabulate}
+use Rattle.laws.specs.Table.{held, tabulate}
 use Rattle.laws.proofs.Cases.{lt-or-ge}
 use Rattle.laws.proofs.Firsts.{nowhere-first}
 use Rattle.laws.proofs.Sums.{sum-add}
@@ -20,7 +20,7 @@ use Rattle.window.proofs.Views.{seen-most}
 use Rattle.pattern.specs.Lines.{Lines, lineTotal}
 use Rattle.pattern.specs.Figures.{stepOf, deviation, figuresOf}
 use Rattle.pattern.specs.Pattern.{patternVerdict, patternFigures}
-use Rattle.pattern.specs.Walk.{lined, held}
+use Rattle.pattern.specs.Walk.{lined}
 use Rattle.pattern.proofs.Totals.{count-is, total-flat}
 use Rattle.pattern.proofs.Figuring.{figures-same, ten-both}
 use Rattle.pattern.proofs.Judges.{Clean, figures-seen}

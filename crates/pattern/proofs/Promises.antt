@@ -5,6 +5,7 @@ use mathlib.Core.List.{List}
 use mathlib.Core.Path.{_≡_, refl, sym, ap, _∙_}
 use native.Mathlib.Nat.{mul-assoc}
 use native.Mathlib.Omega.{arith}
+use Rattle.laws.specs.Table.{held}
 use Rattle.laws.proofs.Cases.{times-le}
 use Rattle.laws.proofs.Sole.{Sole, sole}
 use Rattle.verdict.specs.Answer.{Paper, paperFor}
@@ -16,7 +17,7 @@ use Rattle.window.proofs.Views.{Agree, same-view}
 use Rattle.pattern.specs.Lines.{Lines, columns, rows, lineTotal}
 use Rattle.pattern.specs.Figures.{noFigures, figuresOf}
 use Rattle.pattern.specs.Pattern.{patternVerdict, patternFigures, patternAnswer, paperOf, patternPaper}
-use Rattle.pattern.specs.Walk.{lined, held}
+use Rattle.pattern.specs.Walk.{lined}
 use Rattle.pattern.specs.declared.Figures.{Figures}
 use Rattle.pattern.specs.declared.Pattern.the-variants.{Measured, Refused}
 use Rattle.pattern.proofs.Totals.{count-is, long-is, side-le, side-ge, total-le, total-flat}

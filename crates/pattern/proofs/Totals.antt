@@ -11,12 +11,12 @@ use lib.ListN.{length, set, length-set}
 use lib.Seq.{getD-set-same, getD-set-other}
 use borrow.Author.Tests.{eqb-true, eqb-false}
 use Rattle.laws.specs.Sum.{sumTo}
-use Rattle.laws.specs.Table.{tabulate}
+use Rattle.laws.specs.Table.{held, tabulate}
 use Rattle.laws.proofs.Cases.{true-or-false}
 use Rattle.laws.proofs.Sums.{sum-none, sum-more, sum-ext, sum-le, sum-zero, sum-same, sum-only}
 use Rattle.laws.proofs.Tables.{getD-tabulate, tabulate-ext, tabulated}
 use Rattle.pattern.specs.Lines.{lineTotal}
-use Rattle.pattern.specs.Walk.{lined, lineOf, held, share, withRow}
+use Rattle.pattern.specs.Walk.{lined, lineOf, share, withRow}
 
 module _ (vertical : Bool) (w : ℕ) (view : ℕ → ℕ) where
   module _ (i y x : ℕ) where

@@ -10,7 +10,7 @@ use lib.Arith.{digits-lt, digits-div, digits-mod}
 use lib.Dec.{ltb}
 use lib.ListN.{length}
 use Rattle.laws.specs.First.{firstTo, someTo}
-use Rattle.laws.specs.Table.{tabulate}
+use Rattle.laws.specs.Table.{held, tabulate}
 use Rattle.laws.proofs.Cases.{true-or-false, both-ways}
 use Rattle.laws.proofs.Firsts.{some-none, nowhere-from}
 use Rattle.laws.proofs.Sums.{sum-ext}
@@ -25,7 +25,6 @@ use Rattle.window.proofs.Views.{seen-is}
 use Rattle.refusals.specs.Judge.{shapeOf, lengthOf, codesOf, maskVerdict}
 use Rattle.pattern.specs.Lines.{columns, rows, lineTotal}
 use Rattle.pattern.specs.Pattern.{unsurveyed, patternVerdict, patternFigures}
-use Rattle.pattern.specs.Walk.{held}
 use Rattle.pattern.proofs.Figuring.{figures-ext}
 
 -- b is the transpose of a, which is h rows of w: column x of a is row x of b

@@ -4,9 +4,9 @@ use mathlib.Core.Bool.{Bool, true, false, cond}
 use mathlib.Core.List.{List}
 use mathlib.Core.Path.{_≡_}
 use lib.Dec.{eqb}
-use lib.ListN.{length, getD}
+use lib.ListN.{length}
 use Rattle.laws.specs.Sum.{sumTo}
-use Rattle.laws.specs.Table.{tabulate}
+use Rattle.laws.specs.Table.{held, tabulate}
 use Rattle.pattern.specs.Lines.{Lines, columns, rows}
 
 -- the lines of a direction
@@ -17,10 +17,6 @@ lined false = rows
 -- the line that the site in row y and column x is on
 abbrev pub lineOf : Bool → ℕ → ℕ → ℕ
 lineOf vertical y x = cond vertical x y
-
--- what a list holds at i
-abbrev pub held : List ℕ → ℕ → ℕ
-held list i = getD list i 0
 
 -- what the site in row y and column x gives to the total of line i
 unfoldable pub share : Bool → ℕ → (ℕ → ℕ) → ℕ → ℕ → ℕ → ℕ

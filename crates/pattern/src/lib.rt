@@ -6,11 +6,12 @@ ghost use Rattle.laws.specs.First.{someTo};
 ghost use Rattle.laws.specs.Sum.{sumIn};
 ghost use Rattle.laws.specs.Signed.{apart};
 ghost use Rattle.laws.specs.Greatest.{greater};
+ghost use Rattle.laws.specs.Table.{held};
 ghost use Rattle.window.specs.View.{above};
 ghost use Rattle.pattern.specs.Lines.{columns, rows};
 ghost use Rattle.pattern.specs.Figures.{levelOf, standsOut, deviation, maxOf, figuresOf};
 ghost use Rattle.pattern.specs.Pattern.{patternVerdict, patternFigures, patternAnswer, paperOf, patternPaper};
-ghost use Rattle.pattern.specs.Walk.{lined, lineOf, held, withRow, Possible, Accepted};
+ghost use Rattle.pattern.specs.Walk.{lined, lineOf, withRow, Possible, Accepted};
 use verdict::Refusal;
 use verdict::Verdict;
 

@@ -2,8 +2,8 @@
 use Prim.Native.Nat.{_-_, _<_}
 use native.Mathlib.Omega.{arith}
 use borrow.Author.Needs.{needs}
+use Rattle.laws.specs.Table.{held}
 use Rattle.laws.proofs.Cases.{times-le}
-use Rattle.pattern.specs.Walk.{held}
 use Rattle.pattern.proofs.Totals.{Adding, line-in, adding-none, adding-more, adding-done, adding-le}
 use Rattle.pattern.proofs.add_row.Statement.{statement}
 use Rattle.pattern.proofs.add_row.Tie as tie

@@ -3,7 +3,7 @@ use Prim.Native.Nat.{_≤_}
 use mathlib.Core.Path.{_∙_}
 use native.Mathlib.Omega.{arith}
 use borrow.Author.Needs.{needs}
-use Rattle.pattern.specs.Walk.{held}
+use Rattle.laws.specs.Table.{held}
 use Rattle.pattern.proofs.Figuring.{deviation-is}
 use Rattle.pattern.proofs.deviation_at.Statement.{statement}
 use Rattle.pattern.proofs.deviation_at.Tie as tie

@@ -2,7 +2,7 @@
 use Prim.Native.Nat.{ℕ, _+_, _≤_}
 use native.Mathlib.Omega.{arith}
 use borrow.Author.Needs.{needs}
-use Rattle.pattern.specs.Walk.{held}
+use Rattle.laws.specs.Table.{held}
 use Rattle.pattern.proofs.Figuring.{five-is}
 use Rattle.pattern.proofs.five.Statement.{statement}
 use Rattle.pattern.proofs.five.Tie as tie

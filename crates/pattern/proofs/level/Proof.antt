@@ -5,9 +5,9 @@ use native.Mathlib.Omega.{arith}
 use borrow.Author.Needs.{needs}
 use Rattle.laws.proofs.Sums.{sum-none}
 use Rattle.laws.specs.Sum.{sumTo}
+use Rattle.laws.specs.Table.{held}
 use Rattle.pattern.proofs.Figuring.{level-more}
 use Rattle.pattern.specs.Figures.{stepOf}
-use Rattle.pattern.specs.Walk.{held}
 use Rattle.pattern.proofs.level.Statement.{statement}
 use Rattle.pattern.proofs.level.Tie as tie
 

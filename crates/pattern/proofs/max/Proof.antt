@@ -5,8 +5,8 @@ use native.Mathlib.Omega.{arith}
 use borrow.Author.Needs.{needs}
 use Rattle.laws.proofs.Greatests.{greatest-one, greatest-more}
 use Rattle.laws.specs.Greatest.{greater, greatestIn}
+use Rattle.laws.specs.Table.{held}
 use Rattle.pattern.specs.Figures.{deviation}
-use Rattle.pattern.specs.Walk.{held}
 use Rattle.pattern.proofs.max.Statement.{statement}
 use Rattle.pattern.proofs.max.Tie as tie
 

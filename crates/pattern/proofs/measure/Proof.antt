@@ -3,10 +3,10 @@ use Prim.Native.Nat.{ℕ, _-_, _*_, _≤_}
 use mathlib.Core.Path.{_≡_, refl, ap, _∙_}
 use native.Mathlib.Omega.{arith}
 use borrow.Author.Needs.{needs}
-use Rattle.laws.specs.Table.{tabulate}
+use Rattle.laws.specs.Table.{held, tabulate}
 use Rattle.laws.specs.Sum.{sumTo}
 use Rattle.laws.proofs.Cases.{times-le}
-use Rattle.pattern.specs.Walk.{held, withRow, Possible}
+use Rattle.pattern.specs.Walk.{withRow, Possible}
 use Rattle.pattern.proofs.Measures.{row-ready, totals-ready, totals-figures}
 use Rattle.pattern.proofs.Totals.{passed, row-more, side-le}
 use Rattle.pattern.proofs.measure.Statement.{statement}

@@ -6,8 +6,8 @@ use lib.ListN.{length}
 use borrow.Author.Needs.{needs}
 use Rattle.laws.proofs.Firsts.{some-none, some-more}
 use Rattle.laws.specs.First.{someTo}
+use Rattle.laws.specs.Table.{held}
 use Rattle.window.specs.View.{above}
-use Rattle.pattern.specs.Walk.{held}
 use Rattle.pattern.proofs.some_above.Statement.{statement}
 use Rattle.pattern.proofs.some_above.Tie as tie
 
