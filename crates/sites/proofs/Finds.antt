@@ -1,35 +1,83 @@
 -- The laws of the search for defective sites.
-use Prim.Native.Nat.{ℕ, _≤_}
+use Prim.Native.Nat.{ℕ, _+_, _*_, _<_, _≤_}
 use mathlib.Core.Bool.{Bool, true, false, cond}
 use mathlib.Core.List.{List}
-use mathlib.Core.Path.{_≡_, refl, sym, _∙_}
+use mathlib.Core.Logic.{⊎-elim}
+use mathlib.Core.Path.{_≡_, refl, sym, ap, ap₂, _∙_}
+use native.Mathlib.Nat.{not-suc-le-zero}
 use native.Mathlib.Omega.{arith}
 use lib.Dec.{eqb}
 use lib.ListN.{length, getD}
-use Rattle.laws.specs.Table.{tabulate}
+use Rattle.laws.specs.Table.{held, tabulate}
+use Rattle.laws.proofs.Cases.{lt-or-ge}
+use Rattle.laws.proofs.Sums.{sum-ext}
 use Rattle.verdict.specs.declared.Refusal.{Refusal}
 use Rattle.verdict.specs.declared.Verdict.the-variants as verdict
 use Rattle.window.specs.Shape.{sitesOf}
-use Rattle.window.specs.View.{seen, one}
+use Rattle.window.specs.View.{seenAt, seen, one}
 use Rattle.window.proofs.Views.{seen-is, seen-in, seen-out}
 use Rattle.sites.specs.Near.{nearSum}
-use Rattle.sites.specs.Find.{defaultThreshold, usedThreshold, far, foundAt, markedAt, foundCount, findVerdict, findAnswer, findPaperOf, findPaper, findMask}
+use Rattle.sites.specs.Find.{defaultThreshold, usedThreshold, far, foundAt, marked, markedAt, foundCount, findVerdict, findAnswer, findPaperOf, findPaper, findMask}
+use Rattle.sites.specs.Walk.{between, foundBy, foundAlong, markedAlong, RowMarked}
 use Rattle.sites.specs.declared.Defects.the-variants.{Found, Refused}
 
-module _ (w h t : ℕ) (mask frame : List ℕ) (i : ℕ) where
+module _ (t code sample count total : ℕ) where
   -- a site that is not surveyed is not found
-  pub other-site : (getD mask i 0 ≡ 0 → ⊥) → 0 ≡ foundAt w h t mask (seen mask frame) i
-  unfolding foundAt
-  other-site other = sym (seen-out (getD mask i 0) _ other)
+  pub other-site : (code ≡ 0 → ⊥) → 0 ≡ foundBy t code sample count total
+  unfolding foundBy
+  other-site other = sym (seen-out code _ other)
 
   -- a surveyed one is where it is far from what is seen around it
-  pub surveyed-site : (b : Bool) (count total : ℕ) → getD mask i 0 ≡ 0
-      → count ≡ nearSum 15 w h (one mask) i → total ≡ nearSum 15 w h (seen mask frame) i → far t (getD frame i 0) count total ≡ b
-      → cond b 1 0 ≡ foundAt w h t mask (seen mask frame) i
-  unfolding foundAt
-  surveyed-site b count total here c s e =
-      let p = seen-is mask frame i ∙ seen-in (getD mask i 0) (getD frame i 0) here in
-      rw (seen-in (getD mask i 0) (cond (far t (seen mask frame i) (nearSum 15 w h (one mask) i) (nearSum 15 w h (seen mask frame) i)) 1 0) here, p, ← c, ← s, e)
+  pub surveyed-site : (b : Bool) → code ≡ 0 → far t sample count total ≡ b → cond b 1 0 ≡ foundBy t code sample count total
+  unfolding foundBy
+  surveyed-site b here e = rw e (sym (seen-in code (cond b 1 0) here))
+
+-- along a row, what is decided is told by what the totals differ by
+module _ (w t : ℕ) (mask frame : List ℕ) (c s c′ s′ : ℕ → ℕ) (y x : ℕ) (counts : between w c x ≡ between w c′ x) (totals : between w s x ≡ between w s′ x) where
+  same-along : foundAlong w t mask frame c s y x ≡ foundAlong w t mask frame c′ s′ y x
+  unfolding foundAlong
+  same-along = ap₂ (foundBy t _ _) counts totals
+
+  same-written : markedAlong w t mask frame c s y x ≡ markedAlong w t mask frame c′ s′ y x
+  unfolding markedAlong
+  same-written = ap (marked _) same-along
+
+pub same-row : (w t : ℕ) (mask frame : List ℕ) (c s c′ s′ : ℕ → ℕ) (y : ℕ) {n : ℕ} {before after : List ℕ}
+    → ((x : ℕ) → x < w → between w c x ≡ between w c′ x) → ((x : ℕ) → x < w → between w s x ≡ between w s′ x)
+    → RowMarked w t mask frame c s y n before after → RowMarked w t mask frame c′ s′ y n before after
+same-row w t mask frame c s c′ s′ y counts totals r =
+    record {
+      found = r .found ∙ sum-ext w _ _ (λ x inside. same-along w t mask frame c s c′ s′ y x (counts x inside) (totals x inside));
+      few = r .few;
+      long = r .long;
+      kept = r .kept;
+      written = λ x inside. r .written x inside ∙ same-written w t mask frame c s c′ s′ y x (counts x inside) (totals x inside);
+    }
+
+-- and where they differ by what is seen around the site, as the definition has it
+module _ (w h t : ℕ) (mask frame : List ℕ) (c s : ℕ → ℕ) (y x : ℕ)
+    (counts : between w c x ≡ nearSum 15 w h (one mask) (y * w + x)) (totals : between w s x ≡ nearSum 15 w h (seen mask frame) (y * w + x)) where
+  pub along-found : foundAlong w t mask frame c s y x ≡ foundAt w h t mask (seen mask frame) (y * w + x)
+  unfolding foundAlong foundBy foundAt
+  along-found = rw (counts, totals, seen-is mask frame (y * w + x)) (⊎-elim surveyed other (lt-or-ge (held mask (y * w + x)) 1))
+    where
+      decided : ℕ → ℕ
+      decided sample = cond (far t sample (nearSum 15 w h (one mask) (y * w + x)) (nearSum 15 w h (seen mask frame) (y * w + x))) 1 0
+
+      surveyed : held mask (y * w + x) < 1
+          → seenAt (held mask (y * w + x)) (decided (held frame (y * w + x)))
+          ≡ seenAt (held mask (y * w + x)) (decided (seenAt (held mask (y * w + x)) (held frame (y * w + x))))
+      surveyed low = ap (λ (k : ℕ). seenAt (held mask (y * w + x)) (decided k)) (sym (seen-in _ (held frame (y * w + x)) (omega arith)))
+
+      other : 1 ≤ held mask (y * w + x)
+          → seenAt (held mask (y * w + x)) (decided (held frame (y * w + x)))
+          ≡ seenAt (held mask (y * w + x)) (decided (seenAt (held mask (y * w + x)) (held frame (y * w + x))))
+      other high = let no : held mask (y * w + x) ≡ 0 → ⊥ = λ e. absurd (not-suc-le-zero (rw e at high)) in
+          seen-out _ _ no ∙ sym (seen-out _ _ no)
+
+  pub along-marked : markedAlong w t mask frame c s y x ≡ markedAt w h t mask (seen mask frame) (y * w + x)
+  unfolding markedAlong markedAt
+  along-marked = ap (marked _) along-found
 
 -- the test that decides a surveyed site
 abbrev pub farAt : ℕ → ℕ → ℕ → List ℕ → (ℕ → ℕ) → ℕ → Bool

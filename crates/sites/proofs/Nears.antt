@@ -1,17 +1,19 @@
 -- The laws of what is seen around a site.
-use Prim.Native.Nat.{ℕ, _+_, _-_, _*_, _/_, _<_, _≤_, min}
+use Prim.Native.Nat.{ℕ, _+_, _-_, _*_, _/_, _%_, _<_, _≤_, min}
 use mathlib.Core.List.{List}
 use mathlib.Core.Path.{_≡_, ap, _∙_}
 use native.Mathlib.Omega.{arith}
+use lib.Arith.{digits-div, digits-mod}
 use lib.ListN.{length}
-use Rattle.laws.proofs.Sums.{box-scaled, box-above}
+use Rattle.laws.specs.Sum.{sumBox}
+use Rattle.laws.proofs.Sums.{box-ext, box-scaled, box-above}
 use Rattle.window.specs.Shape.{sitesOf}
 use Rattle.window.specs.View.{seen, one}
 use Rattle.window.proofs.Sides.{Sides}
-use Rattle.plane.specs.Plane.{planeOf, planeRow, planeColumn, siteAt, boxSum, boxSums}
+use Rattle.plane.specs.Plane.{rowParity, planeOf, planeRow, planeColumn, siteAt, boxSum, boxSums}
 use Rattle.plane.specs.declared.PlaneBox.{PlaneBox}
 use Rattle.plane.specs.declared.Sums.{Sums}
-use Rattle.plane.proofs.Planes.{site-in, plane-row, plane-column, plane-of, box-same, sums-accepted}
+use Rattle.plane.proofs.Planes.{site-in, stepped, plane-row, plane-column, plane-of, box-same, sums-accepted}
 use Rattle.sites.specs.Near.{around, nearSum}
 
 module _ (reach w h i : ℕ) where
@@ -28,6 +30,21 @@ module _ (reach w h i : ℕ) where
   near-told mask frame r within legal m f b e =
       let told = e ∙ ap (λ (k : PlaneBox). boxSums w h (planeOf w i) k mask frame) b ∙ sums-accepted w h (planeOf w i) (around reach w i) mask frame legal m f in
       (ap (λ (s : Sums). s .count) told, ap (λ (s : Sums). s .total) told)
+
+-- by the coordinates of the window: two rows of it are one row of each plane
+pub near-at : (reach w h y x : ℕ) (view : ℕ → ℕ) → x < w
+    → nearSum reach w h view (y * w + x)
+    ≡ sumBox (y / 2 - reach) (min (y / 2 + reach + 1) (h / 2)) (x / 2 - reach) (min (x / 2 + reach + 1) (w / 2)) (λ (u v : ℕ). view (2 * w * u + (y % 2 * w + (2 * v + x % 2))))
+unfolding nearSum boxSum
+near-at reach w h y x view inside =
+    rw (digits-div y inside, digits-mod y inside)
+    (box-ext _ _ _ _ _ _ (λ u v _ _ _ _. ap view (site u v)))
+  where
+    rows : rowParity (2 * (y % 2) + x % 2) ≡ y % 2
+    rows = omega arith
+
+    site : (u v : ℕ) → siteAt w (2 * (y % 2) + x % 2) u v ≡ 2 * w * u + (y % 2 * w + (2 * v + x % 2))
+    site u v = omega (arith, stepped w (2 * (y % 2) + x % 2) u v, ap (λ (k : ℕ). k * w) rows)
 
 -- a site of the same plane, at most `reach` rows and columns away
 pub record Near (reach w h i j : ℕ) : Type 0 where

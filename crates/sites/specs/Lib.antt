@@ -1,3 +1,4 @@
 pub mod Near
 pub mod Find
 pub mod Repair
+pub mod Walk

@@ -1,13 +1,14 @@
-// Defective sites and their repair: document 01, "Defective sites", as document 02 g amends it, and "Repair". Both read the mask as it came in and write another.
+// Defective sites and their repair: document 01, "Defective sites", as document 02 g amends it, by running totals (02 b), and "Repair". Both read the mask as it came in and write another.
 ghost use mathlib.Core.Path.{_≡_};
 ghost use mathlib.Core.Bool.{false};
-ghost use Prim.Native.Nat.{_-_, _*_, _<_, _≤_};
+ghost use Prim.Native.Nat.{_+_, _-_, _*_, _%_, _<_, _≤_, min};
 ghost use lib.ListN.{length};
-ghost use Rattle.laws.specs.Table.{tabulate};
+ghost use Rattle.laws.specs.Table.{held, tabulate};
 ghost use Rattle.window.specs.Shape.{badSides, sitesOf};
 ghost use Rattle.window.specs.View.{seen, one};
+ghost use Rattle.sites.specs.Find.{usedThreshold, far, marked, markedAt, foundCount, findVerdict, findAnswer, findPaperOf, findPaper, findMask};
+ghost use Rattle.sites.specs.Walk.{Totals, Nested, strip, alongRow, Along, boxFirst, boxEnd, Rising, between, foundBy, RowMarked};
 ghost use Rattle.sites.specs.Near.{around, nearSum};
-ghost use Rattle.sites.specs.Find.{usedThreshold, far, foundAt, marked, markedAt, foundCount, findVerdict, findAnswer, findPaperOf, findPaper, findMask};
 ghost use Rattle.sites.specs.Repair.{meanOf, filledAt, sampleAfter, codeAfter, filledCount, repairVerdict, repairAnswer, repairPaperOf, repairPaper, repairFrame, repairMask};
 use plane::PlaneBox;
 use plane::Sums;
@@ -17,60 +18,12 @@ use verdict::Verdict;
 // Document 02 g: "Threshold 0 shall stand for 24".
 const DEFAULT_THRESHOLD: u64 = 24;
 
+// The 31 × 31 sites around one: so many rows and columns of its plane to each side.
+const REACH: usize = 15;
+
 pub enum Defects {
     Found(u64),
     Refused(Refusal),
-}
-
-pub enum Repaired {
-    Filled(u64),
-    Refused(Refusal),
-}
-
-fn less(n: usize, k: usize) -> usize
-    ensures { λ r. ⌜ r ≡ n - k ⌝ }
-{
-    if n < k { 0 } else { n - k }
-}
-
-// The box of a site's plane at most `reach` rows and columns from it.
-fn box_around(reach: usize, width: usize, i: usize) -> PlaneBox
-    requires { ⌜ (0 < width) × (i < 16384) × (reach ≤ 15) ⌝ }
-    ensures { λ r. ⌜ r ≡ around reach width i ⌝ }
-{
-    let row = i / width / 2;
-    let column = i % width / 2;
-    PlaneBox {
-        top: less(row, reach),
-        bottom: row + reach + 1,
-        left: less(column, reach),
-        right: column + reach + 1,
-    }
-}
-
-// What is seen there.
-fn near_sums(
-    reach: usize,
-    width: usize,
-    height: usize,
-    i: usize,
-    mask: &[u8],
-    frame: &[u16],
-) -> Sums
-    requires { ⌜ (badSides width height ≡ false) × (i < sitesOf width height) × (reach ≤ 15) ⌝ }
-    requires { ⌜ (length (now mask) ≡ sitesOf width height) × (length (now frame) ≡ sitesOf width height) ⌝ }
-    ensures { λ r. ⌜ (r .count ≡ nearSum reach width height (one (now (mask .entry))) i) × (r .total ≡ nearSum reach width height (seen (now (mask .entry)) (now (frame .entry))) i) ⌝ }
-    ensures { λ r. ⌜ (r .count ≤ 4096) × (r .total ≤ 65535 * r .count) ⌝ }
-{
-    let plane = 2 * (i / width % 2) + i % width % 2;
-    plane::box_sums(
-        width,
-        height,
-        plane,
-        box_around(reach, width, i),
-        mask,
-        frame,
-    )
 }
 
 fn used_threshold(threshold: u64) -> u64
@@ -84,24 +37,22 @@ fn used_threshold(threshold: u64) -> u64
 }
 
 // A sample against the mean of `count` samples, by whole products.
-fn is_far(t: u64, sample: u16, count: u64, total: u64) -> bool
-    requires { ⌜ (t ≤ 4095) × (count ≤ 4096) ⌝ }
+fn is_far(t: u64, sample: u16, count: u32, total: u32) -> bool
+    requires { ⌜ t ≤ 4095 ⌝ }
     ensures { λ r. ⌜ r ≡ far t sample count total ⌝ }
 {
-    t * count <= exact::apart(sample as u64 * count, total)
+    t * count as u64 <= exact::apart(sample as u64 * count as u64, total as u64)
 }
 
-// 1 where a surveyed site is newly found, else 0.
-fn found_at(width: usize, height: usize, t: u64, i: usize, mask: &[u8], frame: &[u16]) -> u64
-    requires { ⌜ (badSides width height ≡ false) × (i < sitesOf width height) × (t ≤ 4095) ⌝ }
-    requires { ⌜ (length (now mask) ≡ sitesOf width height) × (length (now frame) ≡ sitesOf width height) ⌝ }
-    ensures { λ r. ⌜ (r ≡ foundAt width height t (now (mask .entry)) (seen (now (mask .entry)) (now (frame .entry))) i) × (r ≤ 1) ⌝ }
+// 1 where a surveyed site is newly found beside what is seen around it, else 0.
+fn found_by(t: u64, code: u8, sample: u16, count: u32, total: u32) -> u64
+    requires { ⌜ t ≤ 4095 ⌝ }
+    ensures { λ r. ⌜ (r ≡ foundBy t code sample count total) × (r ≤ 1) ⌝ }
 {
-    if mask[i] != 0 {
+    if code != 0 {
         return 0;
     }
-    let sums = near_sums(15, width, height, i, mask, frame);
-    if is_far(t, frame[i], sums.count, sums.total) {
+    if is_far(t, sample, count, total) {
         1
     } else {
         0
@@ -114,18 +65,190 @@ fn code_of(code: u8, found: u64) -> u8
     if found == 0 { code } else { 2 }
 }
 
-// Every site's code, and how many sites are newly found.
+// The first row of a plane within reach of the k-th ..
+fn first_near(k: usize) -> usize
+    ensures { λ r. ⌜ r ≡ k - 15 ⌝ }
+{
+    if k < REACH { 0 } else { k - REACH }
+}
+
+// .. and the end of those within its reach, of n rows.
+fn end_near(k: usize, n: usize) -> usize
+    requires { ⌜ k < 64 ⌝ }
+    ensures { λ r. ⌜ r ≡ min (k + 15 + 1) n ⌝ }
+{
+    let end = k + REACH + 1;
+    if end < n { end } else { n }
+}
+
+// Adds the u-th pair of rows to the totals down the pairs before it.
+fn add_pair(
+    width: usize,
+    u: usize,
+    mask: &[u8],
+    frame: &[u16],
+    counts: &mut [u32; 256],
+    totals: &mut [u32; 256],
+)
+    requires { ⌜ (width ≤ 128) × (u < 64) × (2 * width * u + 2 * width ≤ length (now mask)) × (length (now frame) ≡ length (now mask)) ⌝ }
+    requires { ⌜ Totals width (now mask) (now frame) u (now counts) (now totals) ⌝ }
+    ensures { λ r. ⌜ Totals width (now (mask .entry)) (now (frame .entry)) (u + 1) (now (counts .exit)) (now (totals .exit)) ⌝ }
+{
+    let start = 2 * width * u;
+    for k in 0..2 * width {
+        let code = mask[start + k];
+        counts[k] = counts[k] + window::one_at(code);
+        totals[k] = totals[k] + window::seen_at(code, frame[start + k]) as u32;
+    }
+}
+
+// Adds the pairs of rows from `first` to before `end`.
+fn add_pairs(
+    width: usize,
+    first: usize,
+    end: usize,
+    mask: &[u8],
+    frame: &[u16],
+    counts: &mut [u32; 256],
+    totals: &mut [u32; 256],
+)
+    requires { ⌜ (width ≤ 128) × (first ≤ end) × (end ≤ 64) × (2 * width * end ≤ length (now mask)) × (length (now frame) ≡ length (now mask)) ⌝ }
+    requires { ⌜ Totals width (now mask) (now frame) first (now counts) (now totals) ⌝ }
+    ensures { λ r. ⌜ Totals width (now (mask .entry)) (now (frame .entry)) end (now (counts .exit)) (now (totals .exit)) ⌝ }
+{
+    for u in first..end {
+        add_pair(width, u, mask, frame, counts, totals);
+    }
+}
+
+// Running totals along the row that begins at `start`, of what the totals down the columns differ by; each column parity by itself.
+fn run(width: usize, start: usize, above: &[u32; 256], below: &[u32; 256], along: &mut [u32; 130])
+    requires { ⌜ (width ≤ 128) × (start + width ≤ 2 * width) × Nested width (now above) (now below) × (length (now along) ≡ 130) ⌝ }
+    ensures { λ r. ⌜ Along width (strip (now (above .entry)) (now (below .entry)) start) (now (along .exit)) ⌝ }
+{
+    along[0] = 0;
+    along[1] = 0;
+    for x in 0..width {
+        along[2 + x] = along[x] + (below[start + x] - above[start + x]);
+    }
+}
+
+// Where the box around column x of the window begins ..
+fn box_first(x: usize) -> usize
+    ensures { λ r. ⌜ r ≡ boxFirst x ⌝ }
+{
+    if x < 2 * REACH { x % 2 } else { x - 2 * REACH }
+}
+
+// .. and where it ends.
+fn box_end(width: usize, x: usize) -> usize
+    requires { ⌜ (width ≤ 128) × (width % 2 ≡ 0) × (x < width) ⌝ }
+    ensures { λ r. ⌜ r ≡ boxEnd width x ⌝ }
+{
+    let end = x + 2 * (REACH + 1);
+    if end < width { end } else { width + x % 2 }
+}
+
+// What running totals along a row differ by from the one to the other.
+fn box_along(width: usize, x: usize, along: &[u32; 130]) -> u32
+    requires { ⌜ (width ≤ 128) × (width % 2 ≡ 0) × (x < width) × Rising width (now along) ⌝ }
+    ensures { λ r. ⌜ r ≡ between width (held (now (along .entry))) x ⌝ }
+{
+    along[box_end(width, x)] - along[box_first(x)]
+}
+
+// Marks row y by running totals along it, and answers how many of its sites are newly found.
+fn mark_along(
+    width: usize,
+    y: usize,
+    t: u64,
+    mask: &[u8],
+    frame: &[u16],
+    counts: &[u32; 130],
+    totals: &[u32; 130],
+    out: &mut [u8],
+) -> u64
+    requires { ⌜ (width ≤ 128) × (width % 2 ≡ 0) × (y < 128) × (t ≤ 4095) × (y * width + width ≤ length (now out)) × (length (now mask) ≡ length (now out)) × (length (now frame) ≡ length (now out)) ⌝ }
+    requires { ⌜ Rising width (now counts) × Rising width (now totals) ⌝ }
+    ensures { λ r. ⌜ RowMarked width t (now (mask .entry)) (now (frame .entry)) (held (now (counts .entry))) (held (now (totals .entry))) y r (now (out .entry)) (now (out .exit)) ⌝ }
+{
+    let start = y * width;
+    let mut found = 0;
+    for x in 0..width {
+        let code = mask[start + x];
+        let count = box_along(width, x, counts);
+        let total = box_along(width, x, totals);
+        let f = found_by(t, code, frame[start + x], count, total);
+        out[start + x] = code_of(code, f);
+        found += f;
+    }
+    found
+}
+
+// Marks row y by totals down the columns to before its boxes, and to their end; `counts` and `totals` are room for those along it.
+fn mark_row(
+    width: usize,
+    y: usize,
+    t: u64,
+    mask: &[u8],
+    frame: &[u16],
+    counts_above: &[u32; 256],
+    counts_below: &[u32; 256],
+    totals_above: &[u32; 256],
+    totals_below: &[u32; 256],
+    counts: &mut [u32; 130],
+    totals: &mut [u32; 130],
+    out: &mut [u8],
+) -> u64
+    requires { ⌜ (width ≤ 128) × (width % 2 ≡ 0) × (y < 128) × (t ≤ 4095) × (y * width + width ≤ length (now out)) × (length (now mask) ≡ length (now out)) × (length (now frame) ≡ length (now out)) ⌝ }
+    requires { ⌜ Nested width (now «counts_above») (now «counts_below») × Nested width (now «totals_above») (now «totals_below») × (length (now counts) ≡ 130) × (length (now totals) ≡ 130) ⌝ }
+    ensures { λ r. ⌜ RowMarked width t (now (mask .entry)) (now (frame .entry)) (alongRow width (now («counts_above» .entry)) (now («counts_below» .entry)) y) (alongRow width (now («totals_above» .entry)) (now («totals_below» .entry)) y) y r (now (out .entry)) (now (out .exit)) ⌝ }
+    ensures { λ r. ⌜ (length (now (counts .exit)) ≡ 130) × (length (now (totals .exit)) ≡ 130) ⌝ }
+{
+    let start = y % 2 * width;
+    run(width, start, counts_above, counts_below, counts);
+    run(width, start, totals_above, totals_below, totals);
+    mark_along(width, y, t, mask, frame, counts, totals, out)
+}
+
+// Every site's code, and how many sites are newly found: row after row, by totals down the columns to before a row's boxes and to their end.
 fn mark(width: usize, height: usize, t: u64, mask: &[u8], frame: &[u16], out: &mut [u8]) -> u64
     requires { ⌜ (badSides width height ≡ false) × (t ≤ 4095) ⌝ }
     requires { ⌜ (length (now mask) ≡ sitesOf width height) × (length (now frame) ≡ sitesOf width height) × (length (now out) ≡ sitesOf width height) ⌝ }
     ensures { λ r. ⌜ r ≡ foundCount width height t (now (mask .entry)) (seen (now (mask .entry)) (now (frame .entry))) ⌝ }
     ensures { λ r. ⌜ now (out .exit) ≡ tabulate (sitesOf width height) (markedAt width height t (now (mask .entry)) (seen (now (mask .entry)) (now (frame .entry)))) ⌝ }
 {
+    // c and s as in document 01: how many sites are surveyed, and their sum
+    let mut c_above = [0u32; 256];
+    let mut c_below = [0u32; 256];
+    let mut s_above = [0u32; 256];
+    let mut s_below = [0u32; 256];
+    let mut c_along = [0u32; 130];
+    let mut s_along = [0u32; 130];
+    let mut top = 0;
+    let mut bottom = 0;
     let mut found = 0;
-    for i in 0..out.len() {
-        let f = found_at(width, height, t, i, mask, frame);
-        out[i] = code_of(mask[i], f);
-        found += f;
+    for y in 0..height {
+        let first = first_near(y / 2);
+        let end = end_near(y / 2, height / 2);
+        add_pairs(width, top, first, mask, frame, &mut c_above, &mut s_above);
+        add_pairs(width, bottom, end, mask, frame, &mut c_below, &mut s_below);
+        top = first;
+        bottom = end;
+        found += mark_row(
+            width,
+            y,
+            t,
+            mask,
+            frame,
+            &c_above,
+            &c_below,
+            &s_above,
+            &s_below,
+            &mut c_along,
+            &mut s_along,
+            out,
+        );
     }
     found
 }
@@ -179,6 +302,57 @@ pub fn find_defects(
             out_mask,
         )),
     }
+}
+
+pub enum Repaired {
+    Filled(u64),
+    Refused(Refusal),
+}
+
+fn less(n: usize, k: usize) -> usize
+    ensures { λ r. ⌜ r ≡ n - k ⌝ }
+{
+    if n < k { 0 } else { n - k }
+}
+
+// The box of a site's plane at most `reach` rows and columns from it.
+fn box_around(reach: usize, width: usize, i: usize) -> PlaneBox
+    requires { ⌜ (0 < width) × (i < 16384) × (reach ≤ 15) ⌝ }
+    ensures { λ r. ⌜ r ≡ around reach width i ⌝ }
+{
+    let row = i / width / 2;
+    let column = i % width / 2;
+    PlaneBox {
+        top: less(row, reach),
+        bottom: row + reach + 1,
+        left: less(column, reach),
+        right: column + reach + 1,
+    }
+}
+
+// What is seen there.
+fn near_sums(
+    reach: usize,
+    width: usize,
+    height: usize,
+    i: usize,
+    mask: &[u8],
+    frame: &[u16],
+) -> Sums
+    requires { ⌜ (badSides width height ≡ false) × (i < sitesOf width height) × (reach ≤ 15) ⌝ }
+    requires { ⌜ (length (now mask) ≡ sitesOf width height) × (length (now frame) ≡ sitesOf width height) ⌝ }
+    ensures { λ r. ⌜ (r .count ≡ nearSum reach width height (one (now (mask .entry))) i) × (r .total ≡ nearSum reach width height (seen (now (mask .entry)) (now (frame .entry))) i) ⌝ }
+    ensures { λ r. ⌜ (r .count ≤ 4096) × (r .total ≤ 65535 * r .count) ⌝ }
+{
+    let plane = 2 * (i / width % 2) + i % width % 2;
+    plane::box_sums(
+        width,
+        height,
+        plane,
+        box_around(reach, width, i),
+        mask,
+        frame,
+    )
 }
 
 // The mean of `count` samples, half rounded up.

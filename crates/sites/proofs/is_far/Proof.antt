@@ -7,10 +7,10 @@ use Rattle.sites.proofs.is_far.Statement.{statement}
 use Rattle.sites.proofs.is_far.Tie as tie
 
 mul-result : tie.Need-mul-result
-mul-result c = omega (arith, times-le (c .args .t) (c .args .count) 4095 4096 (c .pre .0) (c .pre .1))
+mul-result c = omega (arith, times-le (c .args .t) (c .args .count) 4095 4294967295 (c .pre) (omega arith))
 
 mul-apart : tie.Need-mul-apart
-mul-apart c = omega (arith, times-le (c .args .sample) (c .args .count) 65535 4096 (omega arith) (c .pre .1))
+mul-apart c = omega (arith, times-le (c .args .sample) (c .args .count) 65535 4294967295 (omega arith) (omega arith))
 
 apart-requires : tie.Need-apart-requires
 apart-requires c κs = search needs

@@ -1,0 +1,86 @@
+-- What the search holds while it walks: running totals down the columns of the planes and along a row, for sums over boxes.
+use Prim.Native.Nat.{ℕ, _+_, _-_, _*_, _/_, _%_, _<_, _≤_, min}
+use mathlib.Core.Bool.{cond}
+use mathlib.Core.List.{List}
+use mathlib.Core.Path.{_≡_}
+use lib.ListN.{length}
+use Rattle.laws.specs.Sum.{sumTo}
+use Rattle.laws.specs.Table.{held}
+use Rattle.window.specs.View.{seenAt, seen, one}
+use Rattle.sites.specs.Find.{far, marked}
+
+-- the u-th pair of rows, 2 × w sites one after the other, is row u of all four planes; a view's sum down the pairs before the b-th, at site k of each
+unfoldable pub downTo : ℕ → (ℕ → ℕ) → ℕ → ℕ → ℕ
+downTo w view b k = sumTo b (λ (u : ℕ). view (2 * w * u + k))
+
+-- a list that holds these
+abbrev pub Down : ℕ → (ℕ → ℕ) → ℕ → List ℕ → Type 0
+Down w view b l = (k : ℕ) → k < 2 * w → held l k ≡ downTo w view b k
+
+-- two such lists, of how many sites are surveyed and of their samples
+pub record Totals (w : ℕ) (mask frame : List ℕ) (b : ℕ) (counts totals : List ℕ) : Type 0 where
+  pub long-counts : length counts ≡ 256
+  pub long-totals : length totals ≡ 256
+  pub counted : Down w (one mask) b counts
+  pub added : Down w (seen mask frame) b totals
+
+-- two lists of one view, of which the second goes farther down, and no farther than a window
+pub record Nested (w : ℕ) (above below : List ℕ) : Type 0 where
+  pub long-above : length above ≡ 256
+  pub long-below : length below ≡ 256
+  pub within : (k : ℕ) → k < 2 * w → (held above k ≤ held below k) × (held below k ≤ 64 * 65535)
+
+-- what they differ by at column x of the row that begins at `start`: a sum over the pairs between
+abbrev pub strip : List ℕ → List ℕ → ℕ → ℕ → ℕ
+strip above below start x = held below (start + x) - held above (start + x)
+
+-- the sum of f along a row before j, over the columns of j's parity
+unfoldable pub alongTo : (ℕ → ℕ) → ℕ → ℕ
+alongTo f j = sumTo (j / 2) (λ (v : ℕ). f (2 * v + j % 2))
+
+-- so along row y, by lists of totals down the columns
+abbrev pub alongRow : ℕ → List ℕ → List ℕ → ℕ → ℕ → ℕ
+alongRow w above below y = alongTo (strip above below (y % 2 * w))
+
+-- a list that holds totals along a row w wide
+pub record Along (w : ℕ) (f : ℕ → ℕ) (l : List ℕ) : Type 0 where
+  pub long : length l ≡ 130
+  pub told : (j : ℕ) → j < w + 2 → held l j ≡ alongTo f j
+
+-- where the box around column x of a row w wide begins, and where it ends
+abbrev pub boxFirst : ℕ → ℕ
+boxFirst x = 2 * (x / 2 - 15) + x % 2
+
+abbrev pub boxEnd : ℕ → ℕ → ℕ
+boxEnd w x = 2 * min (x / 2 + 15 + 1) (w / 2) + x % 2
+
+-- a list that does not fall from the one to the other
+pub record Rising (w : ℕ) (l : List ℕ) : Type 0 where
+  pub long : length l ≡ 130
+  pub rises : (x : ℕ) → x < w → held l (boxFirst x) ≤ held l (boxEnd w x)
+
+-- what running totals differ by from the one to the other
+abbrev pub between : ℕ → (ℕ → ℕ) → ℕ → ℕ
+between w along x = along (boxEnd w x) - along (boxFirst x)
+
+-- 1 at a surveyed site whose sample is far from the mean of `count` samples, 0 at any other
+unfoldable pub foundBy : ℕ → ℕ → ℕ → ℕ → ℕ → ℕ
+unfolding far
+foundBy t code sample count total = seenAt code (cond (far t sample count total) 1 0)
+
+-- row y by running totals of counts and of samples along it
+module _ (w t : ℕ) (mask frame : List ℕ) (counts totals : ℕ → ℕ) (y : ℕ) where
+  -- 1 where the site at column x is newly found, and the code that is written there
+  unfoldable pub foundAlong : ℕ → ℕ
+  foundAlong x = foundBy t (held mask (y * w + x)) (held frame (y * w + x)) (between w counts x) (between w totals x)
+
+  unfoldable pub markedAlong : ℕ → ℕ
+  markedAlong x = marked (held mask (y * w + x)) (foundAlong x)
+
+  -- that so many of its sites are newly found, and that of a mask before and after earlier rows are kept and this one is written
+  pub record RowMarked (count : ℕ) (before after : List ℕ) : Type 0 where
+    pub found : count ≡ sumTo w foundAlong
+    pub few : count ≤ w
+    pub long : length after ≡ length before
+    pub kept : (j : ℕ) → j < y * w → held after j ≡ held before j
+    pub written : (x : ℕ) → x < w → held after (y * w + x) ≡ markedAlong x
