@@ -39,11 +39,12 @@ use Rattle.pattern.proofs.Judges as pattern-table
 use Rattle.pattern.proofs.Promises as pattern
 use Rattle.sites.specs.Find.{findVerdict, findPaper, findMask}
 use Rattle.sites.specs.Find as searches
-use Rattle.sites.specs.Repair.{repairVerdict, repairPaper, repairFrame, repairMask}
-use Rattle.sites.specs.Repair as repairs
-use Rattle.sites.proofs.Accepts.{find-tests, repair-tests}
-use Rattle.sites.proofs.FindPromises as finding
-use Rattle.sites.proofs.RepairPromises as repairing
+use Rattle.repair.specs.Repair.{repairVerdict, repairPaper, repairFrame, repairMask}
+use Rattle.repair.specs.Repair as repairs
+use Rattle.repair.proofs.Accepts.{repair-tests}
+use Rattle.sites.proofs.Accepts.{find-tests}
+use Rattle.sites.proofs.Promises as finding
+use Rattle.repair.proofs.Promises as repairing
 use Rattle.lines.specs.Lines as plane-lines
 use Rattle.lines.specs.Marks.{linesVerdict, linesPaper, linesBuffer}
 use Rattle.lines.specs.Marks as line-marks

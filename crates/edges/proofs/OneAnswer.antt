@@ -17,9 +17,9 @@ use Rattle.pattern.specs.Lines as pattern-lines
 use Rattle.pattern.specs.Pattern.{patternAnswer}
 use Rattle.pattern.proofs.Promises as pattern
 use Rattle.sites.specs.Find.{findAnswer, findMask}
-use Rattle.sites.specs.Repair.{repairAnswer, repairFrame, repairMask}
-use Rattle.sites.proofs.FindPromises as finding
-use Rattle.sites.proofs.RepairPromises as repairing
+use Rattle.repair.specs.Repair.{repairAnswer, repairFrame, repairMask}
+use Rattle.sites.proofs.Promises as finding
+use Rattle.repair.proofs.Promises as repairing
 use Rattle.lines.specs.Lines as plane-lines
 use Rattle.lines.specs.Marks.{linesAnswer, linesBuffer}
 use Rattle.lines.proofs.Promises as marking

@@ -20,7 +20,7 @@ use Rattle.dark.specs.Dark.{aboveBlack, darkVerdict, darkAnswer}
 use Rattle.pattern.specs.Lines.{lineTotal}
 use Rattle.pattern.specs.Figures.{stepOf, tenAround, standsOut, deviation, figuresOf}
 use Rattle.pattern.specs.Pattern.{patternVerdict, patternAnswer}
-use Rattle.sites.specs.Near.{nearSum}
+use Rattle.near.specs.Near.{nearSum}
 use Rattle.sites.specs.Find.{usedThreshold, far, foundAt, markedAt, foundCount, findVerdict, findAnswer, findMask}
 use Rattle.lines.specs.Lines.{before, after, pooled, defective, markOf, markAt}
 use Rattle.lines.specs.Marks.{linesVerdict, linesAnswer, linesBuffer}

@@ -16,7 +16,7 @@ use Rattle.verdict.specs.declared.Verdict.the-variants as verdict
 use Rattle.window.specs.Shape.{sitesOf}
 use Rattle.window.specs.View.{seenAt, seen, one}
 use Rattle.window.proofs.Views.{seen-is, seen-in, seen-out}
-use Rattle.sites.specs.Near.{nearSum}
+use Rattle.near.specs.Near.{nearSum}
 use Rattle.sites.specs.Find.{defaultThreshold, usedThreshold, far, foundAt, marked, markedAt, foundCount, findVerdict, findAnswer, findPaperOf, findPaper, findMask}
 use Rattle.sites.specs.Walk.{between, foundBy, foundAlong, markedAlong, RowMarked}
 use Rattle.sites.specs.declared.Defects.the-variants.{Found, Refused}

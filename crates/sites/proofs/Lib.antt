@@ -1,10 +1,5 @@
-pub mod Nears
 pub mod Accepts
-pub mod Turns
-pub mod Flips
 pub mod Totals
 pub mod Finds
 pub mod Marks
-pub mod Repairs
-pub mod FindPromises
-pub mod RepairPromises
+pub mod Promises

@@ -14,7 +14,7 @@ use Rattle.laws.proofs.Tables.{tabulated}
 use Rattle.window.specs.Shape.{sitesOf}
 use Rattle.window.specs.View.{one, seen}
 use Rattle.window.proofs.Sides.{Sides}
-use Rattle.sites.specs.Near.{nearSum}
+use Rattle.near.specs.Near.{nearSum}
 use Rattle.sites.specs.Find.{foundAt, markedAt, foundCount}
 use Rattle.sites.specs.Walk.{Totals, alongRow, between, RowMarked}
 use Rattle.sites.proofs.Totals.{near-totals}

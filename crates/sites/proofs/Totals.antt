@@ -13,8 +13,8 @@ use Rattle.laws.proofs.Sums.{sum-more, sum-ext, sum-le, totals-grow, box-totals
 use Rattle.laws.proofs.Tables.{Storing}
 use Rattle.window.specs.View.{one, seen}
 use Rattle.window.proofs.Views.{one-le, seen-is, seen-le}
-use Rattle.sites.specs.Near.{nearSum}
-use Rattle.sites.proofs.Nears.{near-at}
+use Rattle.near.specs.Near.{nearSum}
+use Rattle.near.proofs.Nears.{near-at}
 use Rattle.sites.specs.Walk.{downTo, Down, Totals, Nested, strip, alongTo, alongRow, Along, boxFirst, boxEnd, Rising, between}
 
 -- down the columns: one pair of rows more, and what they come to

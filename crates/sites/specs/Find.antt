@@ -13,7 +13,7 @@ use Rattle.verdict.specs.declared.Verdict.{Verdict}
 use Rattle.window.specs.Shape.{sitesOf}
 use Rattle.window.specs.View.{defect, seenAt, seen, one}
 use Rattle.refusals.specs.Judge.{lengthOf, frameVerdict}
-use Rattle.sites.specs.Near.{nearSum}
+use Rattle.near.specs.Near.{nearSum}
 use Rattle.sites.specs.declared.Defects.{Defects}
 use Rattle.sites.specs.declared.Defects.the-variants.{Found, Refused}
 

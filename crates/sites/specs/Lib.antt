@@ -1,4 +1,2 @@
-pub mod Near
 pub mod Find
-pub mod Repair
 pub mod Walk

@@ -2,9 +2,9 @@
 ghost use mathlib.Core.Path.{_≡_};
 ghost use lib.ListN.{length};
 ghost use Rattle.sites.specs.Find.{findPaper, findMask};
-ghost use Rattle.sites.specs.Repair.{repairPaper, repairFrame, repairMask};
+ghost use Rattle.repair.specs.Repair.{repairPaper, repairFrame, repairMask};
+use repair::Repaired;
 use sites::Defects;
-use sites::Repaired;
 
 #[no_mangle]
 pub extern "C" fn tip_find_defects(
@@ -61,7 +61,7 @@ pub extern "C" fn tip_repair(
     ensures frame { λ r. ⌜ now («out_frame» .exit) ≡ repairFrame width height «full_scale» (now (mask .entry)) (now (frame .entry)) (now («out_frame» .entry)) (length (now («out_mask» .entry))) ⌝ }
     ensures mask { λ r. ⌜ now («out_mask» .exit) ≡ repairMask width height «full_scale» (now (mask .entry)) (now (frame .entry)) (length (now («out_frame» .entry))) (now («out_mask» .entry)) ⌝ }
 {
-    match sites::repair(width, height, full_scale, mask, frame, out_frame, out_mask) {
+    match repair::repair(width, height, full_scale, mask, frame, out_frame, out_mask) {
         Repaired::Filled(sites) => {
             *place = 0;
             *over = 0;

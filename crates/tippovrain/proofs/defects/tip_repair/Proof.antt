@@ -3,7 +3,7 @@ use Prim.Native.Nat.{ℕ}
 use mathlib.Core.Path.{sym, ap, _∙_}
 use borrow.Author.Needs.{needs}
 use Rattle.verdict.specs.Answer.{CountedPaper}
-use Rattle.sites.specs.Repair.{repairPaperOf}
+use Rattle.repair.specs.Repair.{repairPaperOf}
 use Rattle.tippovrain.proofs.defects.tip_repair.Statement.{statement}
 use Rattle.tippovrain.proofs.defects.tip_repair.Tie as tie
 

@@ -14,7 +14,7 @@ use Rattle.plane.specs.Plane.{rowParity, planeOf, planeRow, planeColumn, siteAt
 use Rattle.plane.specs.declared.PlaneBox.{PlaneBox}
 use Rattle.plane.specs.declared.Sums.{Sums}
 use Rattle.plane.proofs.Planes.{site-in, stepped, plane-row, plane-column, plane-of, box-same, sums-accepted}
-use Rattle.sites.specs.Near.{around, nearSum}
+use Rattle.near.specs.Near.{around, nearSum}
 
 module _ (reach w h i : ℕ) where
   -- of views that agree on the window

@@ -18,8 +18,8 @@ use Rattle.window.proofs.Views.{seen-is, one-is}
 use Rattle.refusals.proofs.Judges.{Framed}
 use Rattle.plane.specs.Plane.{rowParity, columnParity, planeOf, siteAt, boxSum}
 use Rattle.plane.proofs.Planes.{site-row, site-column}
-use Rattle.sites.specs.Near.{nearSum}
-use Rattle.sites.proofs.Nears.{near-same}
+use Rattle.near.specs.Near.{nearSum}
+use Rattle.near.proofs.Nears.{near-same}
 
 -- the k-th of n, from the other end where it is turned
 unfoldable pub mirrored : Bool → ℕ → ℕ → ℕ

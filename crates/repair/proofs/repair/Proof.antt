@@ -1,10 +1,10 @@
 -- `repair` is right because it writes only where nothing is refused, and then every site's sample and code.
 use mathlib.Core.Path.{sym, _∙_}
 use borrow.Author.Needs.{needs}
-use Rattle.sites.proofs.Repairs.{repair-refused, repair-done}
-use Rattle.sites.proofs.Accepts.{repair-accepted}
-use Rattle.sites.proofs.repair.Statement.{statement}
-use Rattle.sites.proofs.repair.Tie as tie
+use Rattle.repair.proofs.Repairs.{repair-refused, repair-done}
+use Rattle.repair.proofs.Accepts.{repair-accepted}
+use Rattle.repair.proofs.repair.Statement.{statement}
+use Rattle.repair.proofs.repair.Tie as tie
 
 judge-repair-requires : tie.Need-judge-repair-requires
 judge-repair-requires c κs = search needs

@@ -13,9 +13,9 @@ use Rattle.verdict.specs.declared.Verdict.the-variants as verdict
 use Rattle.window.specs.Shape.{sitesOf}
 use Rattle.window.specs.View.{defect, filled, one, seen}
 use Rattle.refusals.specs.Judge.{lengthOf, frameVerdict}
-use Rattle.sites.specs.Near.{nearSum}
-use Rattle.sites.specs.declared.Repaired.{Repaired}
-use Rattle.sites.specs.declared.Repaired.the-variants.{Filled, Refused}
+use Rattle.near.specs.Near.{nearSum}
+use Rattle.repair.specs.declared.Repaired.{Repaired}
+use Rattle.repair.specs.declared.Repaired.the-variants.{Filled, Refused}
 
 -- the surveyed sites among the eight plane neighbours of a site of code 2, which is not surveyed itself
 abbrev pub neighbours : ℕ → ℕ → List ℕ → ℕ → ℕ

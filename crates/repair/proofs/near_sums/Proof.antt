@@ -2,9 +2,9 @@
 use native.Mathlib.Omega.{arith}
 use borrow.Author.Needs.{needs}
 use Rattle.window.proofs.Sides.{Sides, sides, sites-few}
-use Rattle.sites.proofs.Nears.{near-told}
-use Rattle.sites.proofs.near_sums.Statement.{statement}
-use Rattle.sites.proofs.near_sums.Tie as tie
+use Rattle.near.proofs.Nears.{near-told}
+use Rattle.repair.proofs.near_sums.Statement.{statement}
+use Rattle.repair.proofs.near_sums.Tie as tie
 
 legal : (c : tie.Start) → Sides (c .args .width) (c .args .height)
 legal c = sides _ _ (c .pre .0 .0)

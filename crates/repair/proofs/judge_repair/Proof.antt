@@ -3,9 +3,9 @@ use mathlib.Core.Path.{refl}
 use borrow.Author.Needs.{needs}
 use Rattle.verdict.proofs.Verdicts.{then-of}
 use Rattle.refusals.proofs.Judges.{frame-of}
-use Rattle.sites.specs.Repair.{repairVerdict}
-use Rattle.sites.proofs.judge_repair.Statement.{statement}
-use Rattle.sites.proofs.judge_repair.Tie as tie
+use Rattle.repair.specs.Repair.{repairVerdict}
+use Rattle.repair.proofs.judge_repair.Statement.{statement}
+use Rattle.repair.proofs.judge_repair.Tie as tie
 
 length-requires : tie.Need-length-requires
 length-requires c κs = search needs

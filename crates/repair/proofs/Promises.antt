@@ -23,14 +23,14 @@ use Rattle.window.proofs.Views.{Agree, same-view, seen-is, one-is}
 use Rattle.refusals.specs.Judge.{frameVerdict}
 use Rattle.refusals.proofs.Ranges.{one-counting}
 use Rattle.refusals.proofs.Judges.{Framed}
-use Rattle.sites.specs.Near.{nearSum}
-use Rattle.sites.specs.Repair.{meanOf, filledAt, sampleAfter, codeAfter, filledCount, repairVerdict, repairAnswer, repairPaperOf, repairPaper, repairFrame, repairMask}
-use Rattle.sites.specs.declared.Repaired.the-variants.{Filled}
-use Rattle.sites.proofs.Nears.{Near, near-same, near-most, near-least}
-use Rattle.sites.proofs.Accepts.{repair-tests, repair-table, repair-accepted, repair-clear}
-use Rattle.sites.proofs.Repairs.{fillable, filled-new, same-seen, not-again, at-least, at-most, filled-some, same-filled, same-code, same-sample, mean-most, mean-least, not-defect, kept-code, kept-sample, new-sample}
-use Rattle.sites.proofs.Turns.{OnlyTurned, turnedCount, tied, only-turned, count-tied}
-use Rattle.sites.proofs.Flips.{flip, flipped, flip-count, flip-table, code-flip, sample-flip, ones-flip, view-flip, accepted-flip}
+use Rattle.near.specs.Near.{nearSum}
+use Rattle.repair.specs.Repair.{meanOf, filledAt, sampleAfter, codeAfter, filledCount, repairVerdict, repairAnswer, repairPaperOf, repairPaper, repairFrame, repairMask}
+use Rattle.repair.specs.declared.Repaired.the-variants.{Filled}
+use Rattle.near.proofs.Nears.{Near, near-same, near-most, near-least}
+use Rattle.repair.proofs.Accepts.{repair-tests, repair-table, repair-accepted, repair-clear}
+use Rattle.repair.proofs.Repairs.{fillable, filled-new, same-seen, not-again, at-least, at-most, filled-some, same-filled, same-code, same-sample, mean-most, mean-least, not-defect, kept-code, kept-sample, new-sample}
+use Rattle.near.proofs.Turns.{OnlyTurned, turnedCount, tied, only-turned, count-tied}
+use Rattle.near.proofs.Flips.{flip, flipped, flip-count, flip-table, code-flip, sample-flip, ones-flip, view-flip, accepted-flip}
 
 module _ (w h full : ℕ) (mask frame outFrame outMask : List ℕ) where
   -- only: no second answer and no second final frame and mask meets the promise

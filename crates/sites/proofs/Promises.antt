@@ -27,8 +27,8 @@ use Rattle.sites.specs.declared.Defects.{Defects}
 use Rattle.sites.specs.declared.Defects.the-variants.{Found, Refused}
 use Rattle.sites.proofs.Finds.{farAt, same-found, same-marked}
 use Rattle.sites.proofs.Accepts.{find-tests, find-table, find-accepted, find-clear}
-use Rattle.sites.proofs.Turns.{OnlyTurned, turnedCount, tied, only-turned, kept, count-tied}
-use Rattle.sites.proofs.Flips.{flip, flipped, flip-count, flip-table, code-flip, seen-flip, ones-flip, view-flip, accepted-flip}
+use Rattle.near.proofs.Turns.{OnlyTurned, turnedCount, tied, only-turned, kept, count-tied}
+use Rattle.near.proofs.Flips.{flip, flipped, flip-count, flip-table, code-flip, seen-flip, ones-flip, view-flip, accepted-flip}
 
 module _ (w h full t : ℕ) (mask frame out : List ℕ) where
   -- only: no second answer and no second final mask meets the promise

@@ -3,8 +3,8 @@ use Prim.Native.Nat.{_/_, _%_, _≤_}
 use native.Mathlib.Omega.{arith}
 use native.Mathlib.Nat.{div-le-self, mod-le}
 use borrow.Author.Needs.{needs}
-use Rattle.sites.proofs.box_around.Statement.{statement}
-use Rattle.sites.proofs.box_around.Tie as tie
+use Rattle.repair.proofs.box_around.Statement.{statement}
+use Rattle.repair.proofs.box_around.Tie as tie
 
 row : (c : tie.Start) → c .args .i / c .args .width ≤ c .args .i
 row c = div-le-self _ _

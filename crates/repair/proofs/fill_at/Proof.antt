@@ -2,10 +2,10 @@
 use mathlib.Core.Path.{sym, ap₂, _∙_}
 use native.Mathlib.Omega.{arith}
 use borrow.Author.Needs.{needs}
-use Rattle.sites.specs.Repair.{meanOf}
-use Rattle.sites.proofs.Repairs.{not-defect, no-neighbour, neighboured, kept-code, new-code, kept-sample, new-sample}
-use Rattle.sites.proofs.fill_at.Statement.{statement}
-use Rattle.sites.proofs.fill_at.Tie as tie
+use Rattle.repair.specs.Repair.{meanOf}
+use Rattle.repair.proofs.Repairs.{not-defect, no-neighbour, neighboured, kept-code, new-code, kept-sample, new-sample}
+use Rattle.repair.proofs.fill_at.Statement.{statement}
+use Rattle.repair.proofs.fill_at.Tie as tie
 
 mul-sample : tie.Need-mul-sample
 mul-sample c = search needs

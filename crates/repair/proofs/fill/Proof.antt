@@ -10,9 +10,9 @@ use Rattle.laws.proofs.Sums.{sum-none, sum-more}
 use Rattle.window.specs.Shape.{sitesOf}
 use Rattle.window.specs.View.{seen}
 use Rattle.window.proofs.Sides.{sites-few}
-use Rattle.sites.specs.Repair.{filledAt, sampleAfter, codeAfter, filledCount}
-use Rattle.sites.proofs.fill.Statement.{statement}
-use Rattle.sites.proofs.fill.Tie as tie
+use Rattle.repair.specs.Repair.{filledAt, sampleAfter, codeAfter, filledCount}
+use Rattle.repair.proofs.fill.Statement.{statement}
+use Rattle.repair.proofs.fill.Tie as tie
 
 abbrev Inv-loop : tie.InvT-loop
 Inv-loop width height mask frame out-frame₀ out-mask₀ filled₀ i₀ i-end out-frame out-mask filled i = (i ≤ i-end) × (i-end ≡ length out-frame₀)

@@ -14,10 +14,10 @@ use Rattle.verdict.specs.declared.Verdict.the-variants as verdict
 use Rattle.window.specs.Shape.{sitesOf}
 use Rattle.window.specs.View.{surveyed, seenAt, seen, one}
 use Rattle.window.proofs.Views.{seen-most, seen-counted}
-use Rattle.sites.specs.Near.{nearSum}
-use Rattle.sites.specs.Repair.{meanOf, filledAt, sampleAfter, codeAfter, filledCount, repairVerdict, repairAnswer, repairPaperOf, repairPaper, repairFrame, repairMask}
-use Rattle.sites.specs.declared.Repaired.the-variants.{Filled, Refused}
-use Rattle.sites.proofs.Turns.{after, decided}
+use Rattle.near.specs.Near.{nearSum}
+use Rattle.repair.specs.Repair.{meanOf, filledAt, sampleAfter, codeAfter, filledCount, repairVerdict, repairAnswer, repairPaperOf, repairPaper, repairFrame, repairMask}
+use Rattle.repair.specs.declared.Repaired.the-variants.{Filled, Refused}
+use Rattle.near.proofs.Turns.{after, decided}
 
 -- the mean of samples that are at least `least` and at most `most` is so too
 pub mean-most : (s c most : ℕ) → 0 < c → s ≤ most * c → meanOf s c ≤ most

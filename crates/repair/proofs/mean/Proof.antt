@@ -4,9 +4,9 @@ use mathlib.Core.Path.{refl}
 use native.Mathlib.Nat.{div-lt-iff-lt-mul}
 use native.Mathlib.Omega.{arith}
 use borrow.Author.Needs.{needs}
-use Rattle.sites.specs.Repair.{meanOf}
-use Rattle.sites.proofs.mean.Statement.{statement}
-use Rattle.sites.proofs.mean.Tie as tie
+use Rattle.repair.specs.Repair.{meanOf}
+use Rattle.repair.proofs.mean.Statement.{statement}
+use Rattle.repair.proofs.mean.Tie as tie
 
 -- a quotient is below what its numerator is so many times below
 below : (n d b : ℕ) → n < b * d → 0 < d → n / d < b

@@ -1,0 +1,3 @@
+pub mod Nears
+pub mod Turns
+pub mod Flips
