@@ -158,14 +158,82 @@ mod tests {
         assert_eq!(found_at(28), [12, 14]);
     }
 
-    /// R21.
+    /// R21, and the same upright.
     #[test]
     fn the_reach_is_fifteen_to_both_sides() {
-        for (column, defects) in [(30, [0, 30]), (32, [32, 62])] {
+        for (line, defects) in [(30, [0, 30]), (32, [32, 62])] {
             let mut frame = [0; 128];
-            frame[column] = 16;
+            frame[line] = 16;
             assert_eq!(found(64, 2, 1, &[0; 128], &frame), defects);
+            let mut frame = [0; 128];
+            frame[2 * line] = 16;
+            let upright = defects.map(|row| 2 * row);
+            assert_eq!(found(2, 64, 1, &[0; 128], &frame), upright);
         }
+    }
+
+    /// In planes of 17 x 17 no other sites see as few as 16 x 16.
+    #[test]
+    fn corners_see_256_sites() {
+        let corners = [0, 32, 32 * 34, 32 * 34 + 32];
+        for seen in [30 * 34 + 30, 2 * 34 + 2] {
+            let mut frame = [0; 34 * 34];
+            frame[seen] = 256;
+            let mut defects = [corners.to_vec(), vec![seen]].concat();
+            defects.sort();
+            assert_eq!(found(34, 34, 1, &[0; 34 * 34], &frame), defects);
+            frame[seen] = 255;
+            assert_eq!(found(34, 34, 1, &[0; 34 * 34], &frame), [seen]);
+        }
+    }
+
+    #[test]
+    fn sixteen_lines_are_all_seen_from_each() {
+        for (width, height, plane) in [(32, 2, (0..32).step_by(2)), (2, 32, (0..64).step_by(4))] {
+            let plane: Vec<usize> = plane.collect();
+            for &site in &plane {
+                let mut frame = [0; 64];
+                frame[site] = 16;
+                assert_eq!(found(width, height, 1, &[0; 64], &frame), plane);
+                frame[site] = 15;
+                assert_eq!(found(width, height, 1, &[0; 64], &frame), [site]);
+            }
+        }
+    }
+
+    #[test]
+    fn two_sites_see_each_other_up_to_fifteen_lines_apart() {
+        let first = 2 * 66 + 2;
+        for (rows, columns, see) in [
+            (15, 0, true),
+            (0, 15, true),
+            (15, 15, true),
+            (16, 0, false),
+            (0, 16, false),
+            (16, 15, false),
+            (15, 16, false),
+        ] {
+            let other = first + 2 * (rows * 66 + columns);
+            let (mut mask, mut frame) = ([1; 66 * 66], [65535; 66 * 66]);
+            (mask[first], mask[other]) = (0, 0);
+            (frame[first], frame[other]) = (100, 148);
+            let both = if see { &[first, other][..] } else { &[] };
+            assert_eq!(found(66, 66, 24, &mask, &frame), both);
+            frame[other] = 147;
+            assert_eq!(found(66, 66, 24, &mask, &frame), []);
+        }
+    }
+
+    /// Two sites on both sides of the mean. One sees all 961 of its plane, the other all but the
+    /// first column.
+    #[test]
+    fn a_full_window_decides_by_one_grey_level() {
+        let (one, other) = (30 * 62 + 30, 30 * 62 + 32);
+        let mut frame = [1022; 62 * 62];
+        (frame[one], frame[other]) = (1023, 1021);
+        assert_eq!(found(62, 62, 1, &[0; 62 * 62], &frame), [one, other]);
+        frame[0] = 1023;
+        assert_eq!(found(62, 62, 1, &[0; 62 * 62], &frame), [other]);
     }
 
     #[test]
