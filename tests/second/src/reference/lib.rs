@@ -14,3 +14,4 @@ pub mod raw;
 pub mod shared;
 pub mod sites;
 pub mod stack;
+pub mod totals;
