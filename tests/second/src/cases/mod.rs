@@ -16,6 +16,7 @@ mod spoil;
 mod stack;
 mod stacks;
 mod tally;
+mod totals;
 mod windows;
 
 pub use dice::Dice;
@@ -207,5 +208,11 @@ pub const CALLS: &[Call] = &[
             ],
         ],
         round: job::counts,
+    },
+    Call {
+        name: "totals of find_defects",
+        required: &[0, 1, 2, 3, 4, 5, 6],
+        kinds: reference::totals::KINDS,
+        round: totals::totals_of_finding,
     },
 ];

@@ -13,9 +13,9 @@ use super::windows::{self, Window};
 use crate::library::{self, Lent};
 
 #[derive(Clone, Debug, PartialEq)]
-struct Find {
-    threshold: u64,
-    window: Window,
+pub struct Find {
+    pub threshold: u64,
+    pub window: Window,
     out_mask: Lent<u8>,
 }
 
@@ -83,7 +83,7 @@ fn out_frame(sites: usize, dice: &mut Dice) -> Lent<u16> {
     )
 }
 
-fn finding(threshold: u64, window: Window, dice: &mut Dice) -> Find {
+pub fn finding(threshold: u64, window: Window, dice: &mut Dice) -> Find {
     let out_mask = out_mask(window.sites(), dice);
     Find {
         threshold,
@@ -93,7 +93,7 @@ fn finding(threshold: u64, window: Window, dice: &mut Dice) -> Find {
 }
 
 /// Thresholds near the spread of the samples, so that some sites are found and some not.
-fn find_in(window: Window, dice: &mut Dice) -> Find {
+pub fn find_in(window: Window, dice: &mut Dice) -> Find {
     let (near, far) = (
         dice.between(1, 8),
         dice.between(1, window.full_scale.clamp(1, 4095)),
@@ -158,7 +158,7 @@ pub fn counts_of_repair(tally: &mut Tally, dice: &mut Dice) {
     counts::common(tally, dice, shapes::SQUARE, make, REPAIR_SPOILERS);
 }
 
-const FIND_SPOILERS: &[spoil::Spoiler<Find>] = &[
+pub const FIND_SPOILERS: &[spoil::Spoiler<Find>] = &[
     |case, dice| case.window.spoil_sample(dice),
     |case, dice| case.window.spoil_code(dice),
     |case, dice| match dice.below(2) {
@@ -290,7 +290,7 @@ fn at_0_24_and_28(window: &Window, tally: &mut Tally, dice: &mut Dice) {
 }
 
 /// The other sites of a site's plane, up to 15 plane steps away in each direction.
-fn neighbours(shape: Shape, site: usize) -> Vec<usize> {
+pub fn neighbours(shape: Shape, site: usize) -> Vec<usize> {
     let near = |a: usize, b: usize| a % 2 == b % 2 && a.abs_diff(b) <= 30;
     let width = shape.width;
     (0..shape.sites())
