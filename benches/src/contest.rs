@@ -67,12 +67,14 @@ impl<I, O: Debug + PartialEq> Contested for Contest<I, O> {
             began.elapsed().as_nanos() as f64 / calls as f64
         };
 
-        let slowest = forms.iter().map(|form| round(*form, 4)).fold(1.0, f64::max);
-        let calls = (ROUND_NS / slowest).ceil() as usize;
+        let calls: Vec<usize> = forms
+            .iter()
+            .map(|form| (ROUND_NS / round(*form, 4)).ceil() as usize)
+            .collect();
         let mut least = vec![f64::INFINITY; forms.len()];
         for turn in 0..WARM_UP + ROUNDS {
-            for (form, least) in forms.iter().zip(&mut least) {
-                let took = round(*form, calls);
+            for ((form, calls), least) in forms.iter().zip(&calls).zip(&mut least) {
+                let took = round(*form, *calls);
                 if turn >= WARM_UP {
                     *least = least.min(took);
                 }
