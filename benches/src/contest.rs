@@ -9,7 +9,9 @@ pub type Form<I, O> = fn(&I, &mut O);
 
 pub struct Contest<I, O> {
     pub call: &'static str,
-    /// The first is timed; the others, refusals among them, are only compared.
+    /// The sides of the windows that are timed, which are square: the first inputs. The others, refusals among them, are
+    /// only compared.
+    pub timed: &'static [usize],
     pub inputs: Vec<(&'static str, I)>,
     /// What is lent to be written, as it stands before a call.
     pub lent: fn(&I) -> O,
@@ -21,7 +23,7 @@ pub struct Contest<I, O> {
 pub trait Contested {
     /// Runs every form once on every input; says and counts each form that differs from the library.
     fn compare(&self) -> usize;
-    /// Prints the least time of a call, one line for each plain form.
+    /// Prints the least time of a call, one line for each window and each plain form.
     fn time(&self);
 }
 
@@ -52,7 +54,28 @@ impl<I, O: Debug + PartialEq> Contested for Contest<I, O> {
     }
 
     fn time(&self) {
-        let input = &self.inputs[0].1;
+        for (side, (window, input)) in self.timed.iter().zip(&self.inputs) {
+            let least = self.least(input);
+            let library = least[0];
+            for ((form, _), plain) in self.plain.iter().zip(&least[1..]) {
+                println!(
+                    "{:<22} {:<12} {:<14} {:>12.1} {:>12.1} {:>7.3} {:>9.3}",
+                    self.call,
+                    window,
+                    form,
+                    library,
+                    plain,
+                    library / plain,
+                    library / (side * side) as f64
+                );
+            }
+        }
+    }
+}
+
+impl<I, O> Contest<I, O> {
+    /// The least nanoseconds of a call, the library's and then each plain form's.
+    fn least(&self, input: &I) -> Vec<f64> {
         let mut output = (self.lent)(input);
         let forms: Vec<Form<I, O>> = std::iter::once(self.library)
             .chain(self.plain.iter().map(|(_, form)| *form))
@@ -80,17 +103,6 @@ impl<I, O: Debug + PartialEq> Contested for Contest<I, O> {
                 }
             }
         }
-
-        let library = least[0];
-        for ((name, _), plain) in self.plain.iter().zip(&least[1..]) {
-            println!(
-                "{:<22} {:<14} {:>12.1} {:>12.1} {:>7.3}",
-                self.call,
-                name,
-                library,
-                plain,
-                library / plain
-            );
-        }
+        least
     }
 }

@@ -1,7 +1,8 @@
 //! Times each call of the library at 128 x 128 (the job at 64 x 64) beside the same work in plain Rust.
 //!
-//! `bench` prints the least nanoseconds of many rounds, and the library's over plain Rust's. `bench --smoke` times
-//! nothing: it runs each form once on each input and sees that all give the same answer and the same buffers.
+//! `bench` prints the least nanoseconds of many rounds, the library's over plain Rust's, and the library's for a site.
+//! `bench --smoke` times nothing: it runs each form once on each input and sees that all give the same answer and the
+//! same buffers.
 //!
 //! The library is what tools/native-lib makes: on x86-64 the archive of `rt staticlib`, on another machine the same
 //! proved module compiled by another back end.
@@ -16,8 +17,8 @@ fn main() -> ExitCode {
     match words.iter().map(String::as_str).collect::<Vec<_>>()[..] {
         [] => {
             println!(
-                "{:<22} {:<14} {:>12} {:>12} {:>7}",
-                "call", "plain Rust", "library ns", "plain ns", "ratio"
+                "{:<22} {:<12} {:<14} {:>12} {:>12} {:>7} {:>9}",
+                "call", "window", "plain Rust", "library ns", "plain ns", "ratio", "ns a site"
             );
             calls::all().iter().for_each(|contest| contest.time());
             ExitCode::SUCCESS

@@ -78,6 +78,7 @@ fn contest(
 ) -> Contest<Input, Output> {
     Contest {
         call,
+        timed: &[128],
         inputs: vec![
             ("128 x 128", input(128, 1023, |_| {})),
             ("6 x 6", input(6, 1023, |case| case.frame[14] = 1000)),
