@@ -1,5 +1,9 @@
-use super::window::{accepted, codes, frame, samples, shape, Refusal, ACCEPTED};
+use super::window::{accepted, codes, frame, mask, samples, shape, Refusal, ACCEPTED};
 use crate::contest::Contest;
+use std::ops::Range;
+
+/// A box has 31 x 31 sites of its plane: so many rows and columns to each side.
+const REACH: usize = 15;
 
 extern "C" {
     fn tip_find_defects(
@@ -56,63 +60,107 @@ pub struct Output {
 }
 
 pub fn find_defects() -> Contest<Input, Output> {
-    contest(
-        "tip_find_defects",
-        library_find,
-        [plain_find::<false>, plain_find::<true>],
-    )
-}
-
-pub fn repair() -> Contest<Input, Output> {
-    contest(
-        "tip_repair",
-        library_repair,
-        [plain_repair::<false>, plain_repair::<true>],
-    )
-}
-
-fn contest(
-    call: &'static str,
-    library: fn(&Input, &mut Output),
-    [indexed, walk]: [fn(&Input, &mut Output); 2],
-) -> Contest<Input, Output> {
     Contest {
-        call,
-        timed: &[128],
+        call: "tip_find_defects",
+        timed: &[128, 64, 32, 128],
         inputs: vec![
-            ("128 x 128", input(128, 1023, |_| {})),
-            ("6 x 6", input(6, 1023, |case| case.frame[14] = 1000)),
-            ("16 x 16", input(16, 1023, |case| case.threshold = 0)),
-            ("refused 5", input(6, 1023, |case| case.mask[9] = 4)),
-            ("refused 6", input(6, 500, |_| {})),
+            ("128 x 128", input(128, 128, mask, |_| {})),
+            ("64 x 64", input(64, 64, mask, |_| {})),
+            ("32 x 32", input(32, 32, mask, |_| {})),
+            ("mostly gaps", input(128, 128, mostly_gaps, |_| {})),
+            (
+                "only gaps",
+                input(34, 34, all_codes, |case| case.mask.fill(1)),
+            ),
+            (
+                "6 x 6",
+                input(6, 6, all_codes, |case| case.frame[14] = 1000),
+            ),
+            (
+                "16 x 16",
+                input(16, 16, all_codes, |case| case.threshold = 0),
+            ),
+            ("30 x 34", input(30, 34, all_codes, |_| {})),
+            ("62 x 32", input(62, 32, all_codes, |_| {})),
+            ("66 x 64", input(66, 64, all_codes, |_| {})),
+            ("128 x 2", input(128, 2, all_codes, |_| {})),
+            ("2 x 128", input(2, 128, all_codes, |_| {})),
+            ("refused 5", input(6, 6, all_codes, |case| case.mask[9] = 4)),
+            (
+                "refused 6",
+                input(6, 6, all_codes, |case| case.full_scale = 500),
+            ),
         ],
-        lent: |input| Output {
-            number: 77,
-            place: 77,
-            over: 77,
-            count: 77,
-            out_frame: vec![7; input.frame.len()],
-            out_mask: vec![7; input.mask.len()],
-        },
-        library,
-        plain: vec![("indexed", indexed), ("walk first", walk)],
+        lent,
+        library: library_find,
+        plain: vec![
+            ("indexed", running_totals::<false>),
+            ("walk first", running_totals::<true>),
+            ("direct sum", direct_sum),
+        ],
     }
 }
 
-/// All four codes, one site in eight of each that is not surveyed in turn.
-fn input(side: usize, full_scale: u64, spoil: fn(&mut Input)) -> Input {
-    let sites = side * side;
-    let code = |i: usize| if i % 8 == 5 { (i / 8 % 3 + 1) as u8 } else { 0 };
+pub fn repair() -> Contest<Input, Output> {
+    Contest {
+        call: "tip_repair",
+        timed: &[128],
+        inputs: vec![
+            ("128 x 128", input(128, 128, all_codes, |_| {})),
+            (
+                "6 x 6",
+                input(6, 6, all_codes, |case| case.frame[14] = 1000),
+            ),
+            ("16 x 16", input(16, 16, all_codes, |_| {})),
+            ("refused 5", input(6, 6, all_codes, |case| case.mask[9] = 4)),
+            (
+                "refused 6",
+                input(6, 6, all_codes, |case| case.full_scale = 500),
+            ),
+        ],
+        lent,
+        library: library_repair,
+        plain: vec![
+            ("indexed", plain_repair::<false>),
+            ("walk first", plain_repair::<true>),
+        ],
+    }
+}
+
+fn input(width: usize, height: usize, coded: fn(usize) -> Vec<u8>, spoil: fn(&mut Input)) -> Input {
+    let sites = width * height;
     let mut case = Input {
-        width: side,
-        height: side,
-        full_scale,
+        width,
+        height,
+        full_scale: 1023,
         threshold: 28,
-        mask: (0..sites).map(code).collect(),
+        mask: coded(sites),
         frame: frame(sites, 0),
     };
     spoil(&mut case);
     case
+}
+
+/// All four codes, one site in eight of each that is not surveyed in turn.
+fn all_codes(sites: usize) -> Vec<u8> {
+    let code = |i: usize| if i % 8 == 5 { (i / 8 % 3 + 1) as u8 } else { 0 };
+    (0..sites).map(code).collect()
+}
+
+/// 31 gaps in 32 sites.
+fn mostly_gaps(sites: usize) -> Vec<u8> {
+    mask(sites).iter().map(|code| 1 - code).collect()
+}
+
+fn lent(input: &Input) -> Output {
+    Output {
+        number: 77,
+        place: 77,
+        over: 77,
+        count: 77,
+        out_frame: vec![7; input.frame.len()],
+        out_mask: vec![7; input.mask.len()],
+    }
 }
 
 fn library_find(input: &Input, output: &mut Output) {
@@ -197,8 +245,12 @@ fn around(input: &Input, y: usize, x: usize, reach: usize) -> (u64, u64) {
     (count, total)
 }
 
-#[inline(never)]
-fn plain_find<const WALK: bool>(input: &Input, output: &mut Output) {
+/// Refusals first; then `mark` writes every site's code and counts what is newly found.
+fn search<const WALK: bool>(
+    input: &Input,
+    output: &mut Output,
+    mark: impl Fn(&Input, u64, &mut [u8]) -> u64,
+) {
     let lengths = [input.mask.len(), input.frame.len(), output.out_mask.len()];
     let found = refusal::<WALK>(input, input.threshold > 4095, &lengths);
     (output.number, output.place, output.over) = found.err().unwrap_or(ACCEPTED);
@@ -211,16 +263,114 @@ fn plain_find<const WALK: bool>(input: &Input, output: &mut Output) {
     } else {
         input.threshold
     };
+    output.count = mark(input, threshold, &mut output.out_mask);
+}
+
+#[inline(never)]
+fn running_totals<const WALK: bool>(input: &Input, output: &mut Output) {
+    search::<WALK>(input, output, mark_by_running_totals);
+}
+
+#[inline(never)]
+fn direct_sum(input: &Input, output: &mut Output) {
+    search::<true>(input, output, mark_by_direct_sum);
+}
+
+/// The box around each surveyed site, summed site by site.
+fn mark_by_direct_sum(input: &Input, threshold: u64, out: &mut [u8]) -> u64 {
+    let mut found = 0;
     for i in 0..input.mask.len() {
-        output.out_mask[i] = input.mask[i];
+        out[i] = input.mask[i];
         if input.mask[i] == 0 {
-            let (count, total) = around(input, i / input.width, i % input.width, 15);
+            let (count, total) = around(input, i / input.width, i % input.width, REACH);
             if (input.frame[i] as u64 * count).abs_diff(total) >= threshold * count {
-                output.out_mask[i] = 2;
-                output.count += 1;
+                out[i] = 2;
+                found += 1;
             }
         }
     }
+    found
+}
+
+/// Row by row, with totals down the columns to before the row's boxes, `above`, and to their end, `below`.
+fn mark_by_running_totals(input: &Input, threshold: u64, out: &mut [u8]) -> u64 {
+    let (mut counts_above, mut totals_above) = ([0; 256], [0; 256]);
+    let (mut counts_below, mut totals_below) = ([0; 256], [0; 256]);
+    let (mut top, mut bottom) = (0, 0);
+    let mut found = 0;
+    for y in 0..input.height {
+        let (first, end) = (
+            (y / 2).saturating_sub(REACH),
+            (y / 2 + REACH + 1).min(input.height / 2),
+        );
+        add_pairs(input, top..first, &mut counts_above, &mut totals_above);
+        add_pairs(input, bottom..end, &mut counts_below, &mut totals_below);
+        (top, bottom) = (first, end);
+        let row = y % 2 * input.width..(y % 2 + 1) * input.width;
+        let counts = along(&counts_above[row.clone()], &counts_below[row.clone()]);
+        let totals = along(&totals_above[row.clone()], &totals_below[row]);
+        found += mark_row(input, y, threshold, &counts, &totals, out);
+    }
+    found
+}
+
+/// Adds pairs of rows, an even one and the odd one below it side by side, to the totals down the columns.
+fn add_pairs(input: &Input, pairs: Range<usize>, counts: &mut [u32; 256], totals: &mut [u32; 256]) {
+    let long = 2 * input.width;
+    let (counts, totals) = (&mut counts[..long], &mut totals[..long]);
+    for pair in pairs {
+        let mask = &input.mask[pair * long..][..long];
+        let frame = &input.frame[pair * long..][..long];
+        for k in 0..long {
+            let (surveyed, sample) = (mask[k] == 0, frame[k] as u32);
+            counts[k] += u32::from(surveyed);
+            totals[k] += if surveyed { sample } else { 0 };
+        }
+    }
+}
+
+/// Totals along a row, of what the totals down its columns differ by; even and odd columns each by themselves.
+fn along(above: &[u32], below: &[u32]) -> [u32; 130] {
+    let mut totals = [0; 130];
+    for x in 0..above.len() {
+        totals[2 + x] = totals[x] + (below[x] - above[x]);
+    }
+    totals
+}
+
+/// What totals along a row of so many sites differ by from the one end of the box around column x to the other.
+fn within(width: usize, x: usize, totals: &[u32; 130]) -> u32 {
+    let first = if x < 2 * REACH { x % 2 } else { x - 2 * REACH };
+    let end = (x + 2 * REACH + 2).min(width + x % 2);
+    totals[end] - totals[first]
+}
+
+/// Marks row y by the totals along it.
+fn mark_row(
+    input: &Input,
+    y: usize,
+    threshold: u64,
+    counts: &[u32; 130],
+    totals: &[u32; 130],
+    out: &mut [u8],
+) -> u64 {
+    let width = input.width;
+    let mask = &input.mask[y * width..][..width];
+    let frame = &input.frame[y * width..][..width];
+    let out = &mut out[y * width..][..width];
+    let mut found = 0;
+    for x in 0..width {
+        out[x] = mask[x];
+        if mask[x] == 0 {
+            let count = within(width, x, counts) as u64;
+            let total = within(width, x, totals) as u64;
+            if (frame[x] as u64 * count).abs_diff(total) >= threshold * count {
+                out[x] = 2;
+                found += 1;
+            }
+        }
+    }
+    found
 }
 
 #[inline(never)]
