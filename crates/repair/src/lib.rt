@@ -13,6 +13,9 @@ use plane::Sums;
 use verdict::Refusal;
 use verdict::Verdict;
 
+// The eight plane neighbours of a site: so many rows and columns of its plane to each side.
+const REACH: usize = 1;
+
 pub enum Repaired {
     Filled(u64),
     Refused(Refusal),
@@ -24,44 +27,30 @@ fn less(n: usize, k: usize) -> usize
     if n < k { 0 } else { n - k }
 }
 
-// The box of a site's plane at most `reach` rows and columns from it.
-fn box_around(reach: usize, width: usize, i: usize) -> PlaneBox
-    requires { ⌜ (0 < width) × (i < 16384) × (reach ≤ 15) ⌝ }
-    ensures { λ r. ⌜ r ≡ around reach width i ⌝ }
+// The box of a site's plane that has these neighbours, and the site.
+fn box_around(width: usize, i: usize) -> PlaneBox
+    requires { ⌜ (0 < width) × (i < 16384) ⌝ }
+    ensures { λ r. ⌜ r ≡ around 1 width i ⌝ }
 {
     let row = i / width / 2;
     let column = i % width / 2;
     PlaneBox {
-        top: less(row, reach),
-        bottom: row + reach + 1,
-        left: less(column, reach),
-        right: column + reach + 1,
+        top: less(row, REACH),
+        bottom: row + REACH + 1,
+        left: less(column, REACH),
+        right: column + REACH + 1,
     }
 }
 
 // What is seen there.
-fn near_sums(
-    reach: usize,
-    width: usize,
-    height: usize,
-    i: usize,
-    mask: &[u8],
-    frame: &[u16],
-) -> Sums
-    requires { ⌜ (badSides width height ≡ false) × (i < sitesOf width height) × (reach ≤ 15) ⌝ }
+fn near_sums(width: usize, height: usize, i: usize, mask: &[u8], frame: &[u16]) -> Sums
+    requires { ⌜ (badSides width height ≡ false) × (i < sitesOf width height) ⌝ }
     requires { ⌜ (length (now mask) ≡ sitesOf width height) × (length (now frame) ≡ sitesOf width height) ⌝ }
-    ensures { λ r. ⌜ (r .count ≡ nearSum reach width height (one (now (mask .entry))) i) × (r .total ≡ nearSum reach width height (seen (now (mask .entry)) (now (frame .entry))) i) ⌝ }
+    ensures { λ r. ⌜ (r .count ≡ nearSum 1 width height (one (now (mask .entry))) i) × (r .total ≡ nearSum 1 width height (seen (now (mask .entry)) (now (frame .entry))) i) ⌝ }
     ensures { λ r. ⌜ (r .count ≤ 4096) × (r .total ≤ 65535 * r .count) ⌝ }
 {
     let plane = 2 * (i / width % 2) + i % width % 2;
-    plane::box_sums(
-        width,
-        height,
-        plane,
-        box_around(reach, width, i),
-        mask,
-        frame,
-    )
+    plane::box_sums(width, height, plane, box_around(width, i), mask, frame)
 }
 
 // The mean of `count` samples, half rounded up.
@@ -94,7 +83,7 @@ fn fill_at(width: usize, height: usize, i: usize, mask: &[u8], frame: &[u16]) ->
             filled: 0,
         };
     }
-    let sums = near_sums(1, width, height, i, mask, frame);
+    let sums = near_sums(width, height, i, mask, frame);
     if sums.count == 0 {
         return Site {
             sample,

@@ -21,20 +21,20 @@ rem-column c = search needs
 less-requires : tie.Need-less-requires
 less-requires c κs = search needs
 
+add-t6 : tie.Need-add-t6
+add-t6 c = omega (arith, row (c .before))
+
 add-t7 : tie.Need-add-t7
 add-t7 c = omega (arith, row (c .before))
-
-add-t8 : tie.Need-add-t8
-add-t8 c = omega (arith, row (c .before))
 
 less-requires-2 : tie.Need-less-requires-2
 less-requires-2 c κs = search needs
 
+add-t9 : tie.Need-add-t9
+add-t9 c = omega (arith, column (c .before .before))
+
 add-t10 : tie.Need-add-t10
 add-t10 c = omega (arith, column (c .before .before))
-
-add-t11 : tie.Need-add-t11
-add-t11 c = omega (arith, column (c .before .before))
 
 returns : tie.Need-returns
 returns c = rw (c .before .less .ensures, c .less2 .ensures)
@@ -46,9 +46,9 @@ box-around-spec =
     div-row
     rem-column
     less-requires
+    add-t6
     add-t7
-    add-t8
     less-requires-2
+    add-t9
     add-t10
-    add-t11
     returns)
