@@ -2,20 +2,17 @@
 use Prim.Native.Nat.{ℕ, _+_, _*_, _<_, _≤_}
 use mathlib.Core.Bool.{Bool, true, false, cond}
 use mathlib.Core.List.{List}
-use mathlib.Core.Logic.{⊎-elim}
 use mathlib.Core.Path.{_≡_, refl, sym, ap, ap₂, _∙_}
-use native.Mathlib.Nat.{not-suc-le-zero}
 use native.Mathlib.Omega.{arith}
 use lib.Dec.{eqb}
 use lib.ListN.{length, getD}
 use Rattle.laws.specs.Table.{held, tabulate}
-use Rattle.laws.proofs.Cases.{lt-or-ge}
 use Rattle.laws.proofs.Sums.{sum-ext}
 use Rattle.verdict.specs.declared.Refusal.{Refusal}
 use Rattle.verdict.specs.declared.Verdict.the-variants as verdict
 use Rattle.window.specs.Shape.{sitesOf}
-use Rattle.window.specs.View.{seenAt, seen, one}
-use Rattle.window.proofs.Views.{seen-is, seen-in, seen-out}
+use Rattle.window.specs.View.{seen, one}
+use Rattle.window.proofs.Views.{seen-is, seen-in, seen-out, seen-twice}
 use Rattle.near.specs.Near.{nearSum}
 use Rattle.sites.specs.Find.{defaultThreshold, usedThreshold, far, foundAt, marked, markedAt, foundCount, findVerdict, findAnswer, findPaperOf, findPaper, findMask}
 use Rattle.sites.specs.Walk.{between, foundBy, foundAlong, markedAlong, RowMarked}
@@ -59,21 +56,9 @@ module _ (w h t : ℕ) (mask frame : List ℕ) (c s : ℕ → ℕ) (y x : ℕ)
     (counts : between w c x ≡ nearSum 15 w h (one mask) (y * w + x)) (totals : between w s x ≡ nearSum 15 w h (seen mask frame) (y * w + x)) where
   pub along-found : foundAlong w t mask frame c s y x ≡ foundAt w h t mask (seen mask frame) (y * w + x)
   unfolding foundAlong foundBy foundAt
-  along-found = rw (counts, totals, seen-is mask frame (y * w + x)) (⊎-elim surveyed other (lt-or-ge (held mask (y * w + x)) 1))
-    where
-      decided : ℕ → ℕ
-      decided sample = cond (far t sample (nearSum 15 w h (one mask) (y * w + x)) (nearSum 15 w h (seen mask frame) (y * w + x))) 1 0
-
-      surveyed : held mask (y * w + x) < 1
-          → seenAt (held mask (y * w + x)) (decided (held frame (y * w + x)))
-          ≡ seenAt (held mask (y * w + x)) (decided (seenAt (held mask (y * w + x)) (held frame (y * w + x))))
-      surveyed low = ap (λ (k : ℕ). seenAt (held mask (y * w + x)) (decided k)) (sym (seen-in _ (held frame (y * w + x)) (omega arith)))
-
-      other : 1 ≤ held mask (y * w + x)
-          → seenAt (held mask (y * w + x)) (decided (held frame (y * w + x)))
-          ≡ seenAt (held mask (y * w + x)) (decided (seenAt (held mask (y * w + x)) (held frame (y * w + x))))
-      other high = let no : held mask (y * w + x) ≡ 0 → ⊥ = λ e. absurd (not-suc-le-zero (rw e at high)) in
-          seen-out _ _ no ∙ sym (seen-out _ _ no)
+  along-found =
+      rw (counts, totals, seen-is mask frame (y * w + x))
+      (seen-twice _ (held frame (y * w + x)) (λ (sample : ℕ). cond (far t sample (nearSum 15 w h (one mask) (y * w + x)) (nearSum 15 w h (seen mask frame) (y * w + x))) 1 0))
 
   pub along-marked : markedAlong w t mask frame c s y x ≡ markedAt w h t mask (seen mask frame) (y * w + x)
   unfolding markedAlong markedAt

@@ -30,6 +30,15 @@ module _ (code value : ℕ) where
       by true = h
       by false = zero-le
 
+  -- what is decided by a value, where it is seen, is decided by it as it is seen
+  pub seen-twice : (f : ℕ → ℕ) → seenAt code (f value) ≡ seenAt code (f (seenAt code value))
+  unfolding seenAt
+  seen-twice f = by (surveyed code)
+    where
+      by : (t : Bool) → cond t (f value) 0 ≡ cond t (f (cond t value 0)) 0
+      by true = refl
+      by false = refl
+
 -- what stands at a site
 pub seen-is : (mask frame : List ℕ) (i : ℕ) → seen mask frame i ≡ seenAt (getD mask i 0) (getD frame i 0)
 unfolding seen
