@@ -254,15 +254,15 @@ pub box-turned : (a b l r : ℕ) (g : ℕ → ℕ → ℕ) → sumBox a b l r g 
 unfolding sumBox sumIn
 box-turned a b l r g = sum-swap (b - a) (r - l) (λ (u v : ℕ). g (a + u) (l + v))
 
--- a range and a box by running totals. Of a range they are the sums from the start
+-- running totals, the sums from the start: what two differ by is the sum over the range between
 pub in-totals : (a b : ℕ) (f : ℕ → ℕ) → a ≤ b → sumTo b f - sumTo a f ≡ sumIn a b f
 in-totals a b f h = omega (arith, range a b f h)
 
--- which never fall
+-- they never fall
 pub totals-grow : (a b : ℕ) (f : ℕ → ℕ) → a ≤ b → sumTo a f ≤ sumTo b f
 totals-grow a b f h = omega (arith, range a b f h)
 
--- of a box, totals along a row of what totals down the columns differ by
+-- a box: along a row, running totals of what totals down its columns differ by
 pub box-totals : (a b l r : ℕ) (g : ℕ → ℕ → ℕ) → a ≤ b → l ≤ r
     → (sumTo r (λ (v : ℕ). sumTo b (λ (u : ℕ). g u v) - sumTo a (λ (u : ℕ). g u v))
     - sumTo l (λ (v : ℕ). sumTo b (λ (u : ℕ). g u v) - sumTo a (λ (u : ℕ). g u v)))

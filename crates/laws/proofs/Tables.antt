@@ -1,4 +1,4 @@
--- The laws of `tabulate`, and the invariant of a loop that writes a buffer.
+-- The laws of `tabulate`, and the invariants of loops that write a buffer, from its start and from some place on.
 use Prim.Native.Nat.{ℕ, zero, suc, _+_, _-_, _<_, _≤_, suc-le-suc, zero-le}
 use mathlib.Core.List.{List, [], _∷_, _++_, append-nil}
 use mathlib.Core.Logic.{_⊎_, ⊎-elim}

@@ -20,7 +20,7 @@ use Rattle.sites.specs.Walk.{Totals, alongRow, between, RowMarked}
 use Rattle.sites.proofs.Totals.{near-totals}
 use Rattle.sites.proofs.Finds.{along-found, along-marked}
 
--- in buffers that have the window's sites lie its pairs of rows, so that they can be added, and each row
+-- a buffer with the window's sites has its pairs of rows, and each row
 module _ (w h n : ℕ) (legal : Sides w h) (whole : n ≡ sitesOf w h) where
   pub pairs-in : (top b m : ℕ) → m ≡ sitesOf w h → top ≤ b → b ≤ h / 2
       → (w ≤ 128) × (top ≤ b) × (b ≤ 64) × (2 * w * b ≤ n) × (m ≡ n)

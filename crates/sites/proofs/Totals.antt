@@ -106,7 +106,7 @@ begun (x ∷ y ∷ d) zero low = refl
 begun (x ∷ y ∷ d) (suc zero) low = refl
 begun (x ∷ y ∷ d) (suc (suc j)) low = absurd (not-suc-le-zero (le-of-suc-le-suc (le-of-suc-le-suc low)))
 
--- of both views
+-- totals that go farther down are no less, of counts and of samples
 pub both-nested : (w : ℕ) (mask frame : List ℕ) (a b : ℕ) (ca ta cb tb : List ℕ) → a ≤ b → b ≤ 64 → ((i : ℕ) → held frame i ≤ 65535)
     → Totals w mask frame a ca ta → Totals w mask frame b cb tb → Nested w ca cb × Nested w ta tb
 both-nested w mask frame a b ca ta cb tb farther few small above below = (

@@ -9,7 +9,9 @@ use Rattle.laws.specs.Table.{held}
 use Rattle.window.specs.View.{seenAt, seen, one}
 use Rattle.sites.specs.Find.{far, marked}
 
--- the u-th pair of rows, 2 × w sites one after the other, is row u of all four planes; a view's sum down the pairs before the b-th, at site k of each
+-- Pair u is rows 2u and 2u + 1 of the window, 2 × w sites one after the other: row u of all four planes.
+
+-- a view's sum at site k of the pairs before the b-th
 unfoldable pub downTo : ℕ → (ℕ → ℕ) → ℕ → ℕ → ℕ
 downTo w view b k = sumTo b (λ (u : ℕ). view (2 * w * u + k))
 
@@ -24,7 +26,7 @@ pub record Totals (w : ℕ) (mask frame : List ℕ) (b : ℕ) (counts totals : L
   pub counted : Down w (one mask) b counts
   pub added : Down w (seen mask frame) b totals
 
--- two lists of one view, of which the second goes farther down, and no farther than a window
+-- two lists of totals: at each site of a pair the first is no more than the second, and that no more than 64 samples of 16 bits come to
 pub record Nested (w : ℕ) (above below : List ℕ) : Type 0 where
   pub long-above : length above ≡ 256
   pub long-below : length below ≡ 256
@@ -47,26 +49,36 @@ pub record Along (w : ℕ) (f : ℕ → ℕ) (l : List ℕ) : Type 0 where
   pub long : length l ≡ 130
   pub told : (j : ℕ) → j < w + 2 → held l j ≡ alongTo f j
 
--- where the box around column x of a row w wide begins, and where it ends
+-- the column where the box around column x of a row w wide begins, and the first of its parity past it, which may be past the row
 abbrev pub boxFirst : ℕ → ℕ
 boxFirst x = 2 * (x / 2 - 15) + x % 2
 
 abbrev pub boxEnd : ℕ → ℕ → ℕ
 boxEnd w x = 2 * min (x / 2 + 15 + 1) (w / 2) + x % 2
 
--- a list that does not fall from the one to the other
+-- totals along a row that do not fall from where a box begins to where it ends
 pub record Rising (w : ℕ) (l : List ℕ) : Type 0 where
   pub long : length l ≡ 130
   pub rises : (x : ℕ) → x < w → held l (boxFirst x) ≤ held l (boxEnd w x)
 
--- what running totals differ by from the one to the other
+-- the sum over the box around column x, by totals along the row
 abbrev pub between : ℕ → (ℕ → ℕ) → ℕ → ℕ
 between w along x = along (boxEnd w x) - along (boxFirst x)
 
--- 1 at a surveyed site whose sample is far from the mean of `count` samples, 0 at any other
+-- what `foundAt` decides, by numbers alone: 1 at a surveyed site whose sample is far from the mean of `count` samples, 0 at any other
 unfoldable pub foundBy : ℕ → ℕ → ℕ → ℕ → ℕ → ℕ
 unfolding far
 foundBy t code sample count total = seenAt code (cond (far t sample count total) 1 0)
+
+-- that row y, w wide, lies in the buffers, and that the threshold is no more than is accepted
+pub record RowIn (w y t : ℕ) (mask frame out : List ℕ) : Type 0 where
+  pub wide : w ≤ 128
+  pub even : w % 2 ≡ 0
+  pub high : y < 128
+  pub few : t ≤ 4095
+  pub inside : y * w + w ≤ length out
+  pub masked : length mask ≡ length out
+  pub framed : length frame ≡ length out
 
 -- row y by running totals of counts and of samples along it
 module _ (w t : ℕ) (mask frame : List ℕ) (counts totals : ℕ → ℕ) (y : ℕ) where
@@ -77,7 +89,7 @@ module _ (w t : ℕ) (mask frame : List ℕ) (counts totals : ℕ → ℕ) (y : 
   unfoldable pub markedAlong : ℕ → ℕ
   markedAlong x = marked (held mask (y * w + x)) (foundAlong x)
 
-  -- that so many of its sites are newly found, and that of a mask before and after earlier rows are kept and this one is written
+  -- so many of its sites are newly found; earlier rows of the mask are kept, and this one is written
   pub record RowMarked (count : ℕ) (before after : List ℕ) : Type 0 where
     pub found : count ≡ sumTo w foundAlong
     pub few : count ≤ w

@@ -7,7 +7,7 @@ ghost use Rattle.laws.specs.Table.{held, tabulate};
 ghost use Rattle.window.specs.Shape.{badSides, sitesOf};
 ghost use Rattle.window.specs.View.{seen};
 ghost use Rattle.sites.specs.Find.{usedThreshold, far, marked, markedAt, foundCount, findVerdict, findAnswer, findPaperOf, findPaper, findMask};
-ghost use Rattle.sites.specs.Walk.{Totals, Nested, strip, alongRow, Along, boxFirst, boxEnd, Rising, between, foundBy, RowMarked};
+ghost use Rattle.sites.specs.Walk.{Totals, Nested, strip, alongRow, Along, boxFirst, boxEnd, Rising, between, foundBy, RowIn, RowMarked};
 use verdict::Refusal;
 use verdict::Verdict;
 
@@ -129,14 +129,14 @@ fn run(width: usize, start: usize, above: &[u32; 256], below: &[u32; 256], along
     }
 }
 
-// Where the box around column x of the window begins ..
+// The column where the box around column x begins ..
 fn box_first(x: usize) -> usize
     ensures { λ r. ⌜ r ≡ boxFirst x ⌝ }
 {
     if x < 2 * REACH { x % 2 } else { x - 2 * REACH }
 }
 
-// .. and where it ends.
+// .. and the first of its parity past it.
 fn box_end(width: usize, x: usize) -> usize
     requires { ⌜ (width ≤ 128) × (width % 2 ≡ 0) × (x < width) ⌝ }
     ensures { λ r. ⌜ r ≡ boxEnd width x ⌝ }
@@ -145,7 +145,7 @@ fn box_end(width: usize, x: usize) -> usize
     if end < width { end } else { width + x % 2 }
 }
 
-// What running totals along a row differ by from the one to the other.
+// The sum over the box around column x, by totals along the row.
 fn box_along(width: usize, x: usize, along: &[u32; 130]) -> u32
     requires { ⌜ (width ≤ 128) × (width % 2 ≡ 0) × (x < width) × Rising width (now along) ⌝ }
     ensures { λ r. ⌜ r ≡ between width (held (now (along .entry))) x ⌝ }
@@ -164,7 +164,7 @@ fn mark_along(
     totals: &[u32; 130],
     out: &mut [u8],
 ) -> u64
-    requires { ⌜ (width ≤ 128) × (width % 2 ≡ 0) × (y < 128) × (t ≤ 4095) × (y * width + width ≤ length (now out)) × (length (now mask) ≡ length (now out)) × (length (now frame) ≡ length (now out)) ⌝ }
+    requires { ⌜ RowIn width y t (now mask) (now frame) (now out) ⌝ }
     requires { ⌜ Rising width (now counts) × Rising width (now totals) ⌝ }
     ensures { λ r. ⌜ RowMarked width t (now (mask .entry)) (now (frame .entry)) (held (now (counts .entry))) (held (now (totals .entry))) y r (now (out .entry)) (now (out .exit)) ⌝ }
 {
@@ -196,7 +196,7 @@ fn mark_row(
     totals: &mut [u32; 130],
     out: &mut [u8],
 ) -> u64
-    requires { ⌜ (width ≤ 128) × (width % 2 ≡ 0) × (y < 128) × (t ≤ 4095) × (y * width + width ≤ length (now out)) × (length (now mask) ≡ length (now out)) × (length (now frame) ≡ length (now out)) ⌝ }
+    requires { ⌜ RowIn width y t (now mask) (now frame) (now out) ⌝ }
     requires { ⌜ Nested width (now «counts_above») (now «counts_below») × Nested width (now «totals_above») (now «totals_below») × (length (now counts) ≡ 130) × (length (now totals) ≡ 130) ⌝ }
     ensures { λ r. ⌜ RowMarked width t (now (mask .entry)) (now (frame .entry)) (alongRow width (now («counts_above» .entry)) (now («counts_below» .entry)) y) (alongRow width (now («totals_above» .entry)) (now («totals_below» .entry)) y) y r (now (out .entry)) (now (out .exit)) ⌝ }
     ensures { λ r. ⌜ (length (now (counts .exit)) ≡ 130) × (length (now (totals .exit)) ≡ 130) ⌝ }
@@ -208,13 +208,13 @@ fn mark_row(
 }
 
 // Every site's code, and how many sites are newly found: row after row, by totals down the columns to before a row's boxes and to their end.
+// c and s are document 01's c and S. A pair of rows has up to 256 sites; along a row each parity has one total more than columns.
 fn mark(width: usize, height: usize, t: u64, mask: &[u8], frame: &[u16], out: &mut [u8]) -> u64
     requires { ⌜ (badSides width height ≡ false) × (t ≤ 4095) ⌝ }
     requires { ⌜ (length (now mask) ≡ sitesOf width height) × (length (now frame) ≡ sitesOf width height) × (length (now out) ≡ sitesOf width height) ⌝ }
     ensures { λ r. ⌜ r ≡ foundCount width height t (now (mask .entry)) (seen (now (mask .entry)) (now (frame .entry))) ⌝ }
     ensures { λ r. ⌜ now (out .exit) ≡ tabulate (sitesOf width height) (markedAt width height t (now (mask .entry)) (seen (now (mask .entry)) (now (frame .entry)))) ⌝ }
 {
-    // c and s as in document 01: how many sites are surveyed, and their sum
     let mut c_above = [0u32; 256];
     let mut c_below = [0u32; 256];
     let mut s_above = [0u32; 256];

@@ -77,7 +77,15 @@ mark-row-requires c κs = let below = c .before .before .before .before .before 
     let p = Begun (turn e) .pre in
     let i = turn e .loop .inv in
     let nested = both-nested _ _ _ _ _ _ _ _ _ (omega (arith, first e, end e)) (omega (arith, end e, l .high .high)) (small (turn e)) (above .add-pairs .ensures) (below .add-pairs2 .ensures) in (
-      (l .wide .high, l .wide .even, omega (arith, l .high .high), p .0 .1, row-in _ _ _ l (i .7 ∙ p .1 .2) _ (omega arith), omega arith, omega arith),
+      record {
+        wide = l .wide .high;
+        even = l .wide .even;
+        high = omega (arith, l .high .high);
+        few = p .0 .1;
+        inside = row-in _ _ _ l (i .7 ∙ p .1 .2) _ (omega arith);
+        masked = omega arith;
+        framed = omega arith;
+      },
       (nested .0, nested .1, i .5, i .6),
     )
 

@@ -41,11 +41,11 @@ shared-slice-read-code c = search needs
 
 box-along-requires : tie.Need-box-along-requires Inv-loop μ-loop
 box-along-requires c κs = let s = c .before .before .before .before .before .before in
-    (s .pre .0 .0, s .pre .0 .1, omega arith, s .pre .1 .0)
+    (s .pre .0 .wide, s .pre .0 .even, omega arith, s .pre .1 .0)
 
 box-along-requires-2 : tie.Need-box-along-requires-2 Inv-loop μ-loop
 box-along-requires-2 c κs = let s = c .before .before .before .before .before .before .before in
-    (s .pre .0 .0, s .pre .0 .1, omega arith, s .pre .1 .1)
+    (s .pre .0 .wide, s .pre .0 .even, omega arith, s .pre .1 .1)
 
 add-found-by : tie.Need-add-found-by Inv-loop μ-loop
 add-found-by c = search needs

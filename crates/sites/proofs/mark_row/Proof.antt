@@ -12,11 +12,11 @@ mul-start c = let a = c .before .before .before .args in
 
 run-requires : tie.Need-run-requires
 run-requires c κs = let s = c .before .before .before .before in
-    (s .pre .0 .0, row-in-pair (s .args .width) (s .args .y), s .pre .1 .0, s .pre .1 .2)
+    (s .pre .0 .wide, row-in-pair (s .args .width) (s .args .y), s .pre .1 .0, s .pre .1 .2)
 
 run-requires-2 : tie.Need-run-requires-2
 run-requires-2 c κs = let s = c .before .before .before .before .before .before in
-    (s .pre .0 .0, row-in-pair (s .args .width) (s .args .y), s .pre .1 .1, s .pre .1 .3)
+    (s .pre .0 .wide, row-in-pair (s .args .width) (s .args .y), s .pre .1 .1, s .pre .1 .3)
 
 mark-along-requires : tie.Need-mark-along-requires
 mark-along-requires c κs = let totals = c .before .before .before in
