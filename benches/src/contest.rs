@@ -59,14 +59,14 @@ impl<I, O: Debug + PartialEq> Contested for Contest<I, O> {
             let library = least[0];
             for ((form, _), plain) in self.plain.iter().zip(&least[1..]) {
                 println!(
-                    "{:<22} {:<12} {:<14} {:>12.1} {:>12.1} {:>7.3} {:>9.3}",
+                    "{:<22} {:<12} {:<14} {:>12.1} {:>9.3} {:>12.1} {:>8.4}",
                     self.call,
                     window,
                     form,
                     library,
+                    library / (side * side) as f64,
                     plain,
-                    library / plain,
-                    library / (side * side) as f64
+                    library / plain
                 );
             }
         }
@@ -92,7 +92,8 @@ impl<I, O> Contest<I, O> {
 
         let calls: Vec<usize> = forms
             .iter()
-            .map(|form| (ROUND_NS / round(*form, 4)).ceil() as usize)
+            .map(|form| (0..5).map(|_| round(*form, 4)).fold(ROUND_NS, f64::min))
+            .map(|took| (ROUND_NS / took).ceil() as usize)
             .collect();
         let mut least = vec![f64::INFINITY; forms.len()];
         for turn in 0..WARM_UP + ROUNDS {

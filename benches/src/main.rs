@@ -18,8 +18,8 @@ fn main() -> ExitCode {
     match words.iter().map(String::as_str).collect::<Vec<_>>()[..] {
         [] => {
             println!(
-                "{:<22} {:<12} {:<14} {:>12} {:>12} {:>7} {:>9}",
-                "call", "window", "plain Rust", "library ns", "plain ns", "ratio", "ns a site"
+                "{:<22} {:<12} {:<14} {:>12} {:>9} {:>12} {:>8}",
+                "call", "window", "plain Rust", "library ns", "ns a site", "plain ns", "ratio"
             );
             calls::all().iter().for_each(|contest| contest.time());
             ExitCode::SUCCESS

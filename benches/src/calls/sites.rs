@@ -62,16 +62,13 @@ pub struct Output {
 pub fn find_defects() -> Contest<Input, Output> {
     Contest {
         call: "tip_find_defects",
-        timed: &[128, 64, 32, 128],
+        timed: &[128, 64, 32, 128, 128],
         inputs: vec![
             ("128 x 128", input(128, 128, mask, |_| {})),
             ("64 x 64", input(64, 64, mask, |_| {})),
             ("32 x 32", input(32, 32, mask, |_| {})),
             ("mostly gaps", input(128, 128, mostly_gaps, |_| {})),
-            (
-                "only gaps",
-                input(34, 34, all_codes, |case| case.mask.fill(1)),
-            ),
+            ("only gaps", input(128, 128, mask, |case| case.mask.fill(1))),
             (
                 "6 x 6",
                 input(6, 6, all_codes, |case| case.frame[14] = 1000),
@@ -296,6 +293,7 @@ fn mark_by_direct_sum(input: &Input, threshold: u64, out: &mut [u8]) -> u64 {
 fn mark_by_running_totals(input: &Input, threshold: u64, out: &mut [u8]) -> u64 {
     let (mut counts_above, mut totals_above) = ([0; 256], [0; 256]);
     let (mut counts_below, mut totals_below) = ([0; 256], [0; 256]);
+    let (mut counts, mut totals) = ([0; 130], [0; 130]);
     let (mut top, mut bottom) = (0, 0);
     let mut found = 0;
     for y in 0..input.height {
@@ -307,8 +305,12 @@ fn mark_by_running_totals(input: &Input, threshold: u64, out: &mut [u8]) -> u64 
         add_pairs(input, bottom..end, &mut counts_below, &mut totals_below);
         (top, bottom) = (first, end);
         let row = y % 2 * input.width..(y % 2 + 1) * input.width;
-        let counts = along(&counts_above[row.clone()], &counts_below[row.clone()]);
-        let totals = along(&totals_above[row.clone()], &totals_below[row]);
+        run(
+            &counts_above[row.clone()],
+            &counts_below[row.clone()],
+            &mut counts,
+        );
+        run(&totals_above[row.clone()], &totals_below[row], &mut totals);
         found += mark_row(input, y, threshold, &counts, &totals, out);
     }
     found
@@ -330,19 +332,18 @@ fn add_pairs(input: &Input, pairs: Range<usize>, counts: &mut [u32; 256], totals
 }
 
 /// Totals along a row, of what the totals down its columns differ by; even and odd columns each by themselves.
-fn along(above: &[u32], below: &[u32]) -> [u32; 130] {
-    let mut totals = [0; 130];
+fn run(above: &[u32], below: &[u32], along: &mut [u32; 130]) {
+    (along[0], along[1]) = (0, 0);
     for x in 0..above.len() {
-        totals[2 + x] = totals[x] + (below[x] - above[x]);
+        along[2 + x] = along[x] + (below[x] - above[x]);
     }
-    totals
 }
 
-/// What totals along a row of so many sites differ by from the one end of the box around column x to the other.
-fn within(width: usize, x: usize, totals: &[u32; 130]) -> u32 {
+/// The sum over the box around column x, by totals along a row of `width` sites.
+fn within(width: usize, x: usize, along: &[u32; 130]) -> u32 {
     let first = if x < 2 * REACH { x % 2 } else { x - 2 * REACH };
     let end = (x + 2 * REACH + 2).min(width + x % 2);
-    totals[end] - totals[first]
+    along[end] - along[first]
 }
 
 /// Marks row y by the totals along it.
