@@ -330,8 +330,8 @@ uint64_t tip_pattern_horizontal(size_t width, size_t height, uint64_t full_scale
  * them, the site included, with the sum S. It is defective when |p * c - S| >= threshold * c: it is at least the
  * threshold from their mean. Every decision uses the mask as it came in.
  *
- * The time goes with the window's sites, and not with the 31 * 31. The totals that this takes are local arrays, of 5,136
- * bytes: with all its locals the call needs at most 64 KB of stack, no buffer for them, and it allocates nothing.
+ * The time grows with the window's sites, not with the 31 * 31 of a box. Running totals stand in local arrays of 5,136
+ * bytes; with all its locals the call needs at most 64 KB of stack, and no buffer but those below.
  *
  *   full_scale   grey levels, 1 to 4095
  *   threshold    grey levels, 1 to 4095; 0 stands for the default, 24

@@ -7,8 +7,8 @@ use crate::{native, Refusal, Window};
 /// of its plane around it, cut off at the plane's edges: c of them, the site included, with the sum S. It is defective
 /// when `|p * c - S| >= threshold * c`. Every decision uses the mask as it came in.
 ///
-/// The time goes with the window's sites, and not with the 31 * 31. With all its locals the call needs at most 64 KB of
-/// stack; it allocates nothing.
+/// The time grows with the window's sites, not with the 31 * 31 of a box. With all its locals the call needs at most
+/// 64 KB of stack; it allocates nothing.
 ///
 /// - `threshold`: 1 to 4095 grey levels; 0 stands for the default, 24
 /// - `mask`: `width * height` codes, 0 to 3
