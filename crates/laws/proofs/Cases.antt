@@ -1,10 +1,10 @@
--- Splitting on an order or on a test.
-use Prim.Native.Nat.{ℕ, _*_, _≤_, _<_}
+-- Splitting on an order or on a test; bounds on products.
+use Prim.Native.Nat.{ℕ, _+_, _*_, _≤_, _<_}
 use mathlib.Core.Bool.{Bool, true, false, _||_, _&&_}
 use mathlib.Core.Logic.{_⊎_, inl, inr, ⊎-elim}
 use mathlib.Core.Path.{_≡_, refl, sym, _∙_}
 use native.Mathlib.Decide.{decLt}
-use native.Mathlib.Nat.{mul-le-mul}
+use native.Mathlib.Nat.{mul-le-mul, mul-le-mul-right, suc-mul}
 use native.Mathlib.Omega.{arith}
 use lib.Dec.{ltb}
 use borrow.Author.Tests.{lt-ltb, le-ltb}
@@ -55,3 +55,7 @@ ltb-iff a b c d f g =
 -- a product by bounds on its factors
 pub times-le : (a b x y : ℕ) → a ≤ x → b ≤ y → a * b ≤ x * y
 times-le a b x y p q = mul-le-mul p q
+
+-- row y of h rows, w wide, ends in them
+pub row-end : (y h w : ℕ) → y < h → y * w + w ≤ h * w
+row-end y h w l = rw (← suc-mul y w) (mul-le-mul-right w l)

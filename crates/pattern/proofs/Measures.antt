@@ -3,11 +3,11 @@ use Prim.Native.Nat.{ℕ, _+_, _*_, _<_, _≤_}
 use mathlib.Core.Bool.{Bool}
 use mathlib.Core.List.{List}
 use mathlib.Core.Path.{_≡_, sym, ap, ap₂, _∙_}
-use native.Mathlib.Nat.{suc-mul, mul-assoc, mul-le-mul-right}
+use native.Mathlib.Nat.{mul-assoc}
 use native.Mathlib.Omega.{arith}
 use lib.ListN.{length}
 use Rattle.laws.specs.Table.{held, tabulate}
-use Rattle.laws.proofs.Cases.{times-le}
+use Rattle.laws.proofs.Cases.{times-le, row-end}
 use Rattle.laws.proofs.Tables.{length-tabulate, getD-tabulate}
 use Rattle.pattern.specs.Lines.{lineTotal}
 use Rattle.pattern.specs.Figures.{figuresOf}
@@ -15,9 +15,6 @@ use Rattle.pattern.specs.Pattern.{patternFigures}
 use Rattle.pattern.specs.Walk.{lined, lineOf, Possible, Accepted}
 use Rattle.pattern.proofs.Totals.{passed, passed-le, whole, count-is, long-is, side-le, total-le}
 use Rattle.pattern.proofs.Figuring.{figures-ext}
-
-row-end : (y h w : ℕ) → y < h → y * w + w ≤ h * w
-row-end y h w l = rw (← suc-mul y w) (mul-le-mul-right w l)
 
 module _ (vertical : Bool) (w h full k : ℕ) (sums : List ℕ) (a : Accepted w h full k sums) where
   -- row y can be added to the totals of the rows before it

@@ -3,12 +3,12 @@ use Prim.Native.Nat.{ℕ, _+_, _-_, _*_, _/_, _<_, _≤_, min}
 use mathlib.Core.List.{List}
 use mathlib.Core.Logic.{⊎-elim}
 use mathlib.Core.Path.{_≡_, sym, ap, ap₂, _∙_}
-use native.Mathlib.Nat.{add-mul, suc-mul, mul-assoc, mul-comm, mul-le-mul-right, zero-mul, not-suc-le-zero}
+use native.Mathlib.Nat.{add-mul, mul-assoc, mul-comm, mul-le-mul-right, zero-mul, not-suc-le-zero}
 use native.Mathlib.Omega.{arith}
 use lib.ListN.{length}
 use Rattle.laws.specs.Sum.{sumTo}
 use Rattle.laws.specs.Table.{held, tabulate}
-use Rattle.laws.proofs.Cases.{lt-or-ge}
+use Rattle.laws.proofs.Cases.{lt-or-ge, row-end}
 use Rattle.laws.proofs.Sums.{sum-none, sum-ext, sum-split}
 use Rattle.laws.proofs.Tables.{tabulated}
 use Rattle.window.specs.Shape.{sitesOf}
@@ -34,7 +34,7 @@ module _ (w h n : ℕ) (legal : Sides w h) (whole : n ≡ sitesOf w h) where
       )
 
   pub row-in : (y : ℕ) → y < h → y * w + w ≤ n
-  row-in y low = omega (arith, whole, legal .sites, mul-le-mul-right w low, suc-mul y w)
+  row-in y low = omega (arith, whole, legal .sites, row-end y h w low)
 
 module _ (w h t : ℕ) (mask frame : List ℕ) where
   -- the first n sites are marked

@@ -8,7 +8,7 @@ use native.Mathlib.Omega.{arith}
 use lib.ListN.{length, set, replicate, length-replicate, getD-replicate}
 use Rattle.laws.specs.Sum.{sumTo}
 use Rattle.laws.specs.Table.{held}
-use Rattle.laws.proofs.Cases.{lt-or-ge}
+use Rattle.laws.proofs.Cases.{lt-or-ge, row-end}
 use Rattle.laws.proofs.Sums.{sum-more, sum-ext, sum-le, totals-grow, box-totals}
 use Rattle.laws.proofs.Tables.{Storing}
 use Rattle.window.specs.View.{one, seen}
@@ -126,7 +126,7 @@ totals-none w mask frame wide =
 
 -- either row of a pair lies in it
 pub row-in-pair : (w y : ℕ) → y % 2 * w + w ≤ 2 * w
-row-in-pair w y = let low : y % 2 ≤ 1 = omega arith in omega (arith, mul-le-mul-right w low)
+row-in-pair w y = row-end (y % 2) 2 w (omega arith)
 
 -- What is seen around a site of row y, by totals down the columns to before its box, and to its end.
 module _ (w h y x : ℕ) (view : ℕ → ℕ) (above below : List ℕ)
