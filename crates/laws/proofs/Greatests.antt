@@ -2,13 +2,14 @@
 use Prim.Native.Nat.{ℕ, zero, suc, _+_, _-_, _<_, _≤_}
 use mathlib.Core.Bool.{Bool, true, false, cond}
 use mathlib.Core.Logic.{⊎-elim}
-use mathlib.Core.Path.{_≡_, ap₂}
-use native.Mathlib.Nat.{add-zero}
+use mathlib.Core.Path.{_≡_, refl, sym, subst, ap₂}
+use native.Mathlib.Nat.{add-zero, eq-or-lt-of-le, le-of-suc-le-suc}
 use native.Mathlib.Omega.{arith}
-use lib.Dec.{ltb}
-use borrow.Author.Tests.{ltb-true, ltb-false}
-use Rattle.laws.specs.Greatest.{greater, greatestTo, greatestIn}
+use lib.Dec.{eqb, ltb}
+use borrow.Author.Tests.{ltb-true, ltb-false, eq-eqb, ne-eqb}
+use Rattle.laws.specs.Greatest.{greater, greatestTo, greatestIn, firstGreatest}
 use Rattle.laws.proofs.Cases.{lt-or-ge, true-or-false}
+use Rattle.laws.proofs.Firsts.{first-end, first-here}
 
 -- neither of two is above the greater
 left-le : (x y : ℕ) → x ≤ greater x y
@@ -73,3 +74,57 @@ unfolding greatestIn
 greatest-le a b f k p q =
     let e : a + (k - a) ≡ k = omega arith in
     rw e at (to-le (λ (k : ℕ). f (a + k)) (b - a - 1) (k - a) (omega arith))
+
+-- ---- where the greatest stands first
+module _ (f : ℕ → ℕ) where
+  -- k is a place below n, f is nowhere greater, and before k it is less
+  pub record LeadsAt (n k : ℕ) : Type 0 where
+    pub inside : k < n
+    pub most : (i : ℕ) → i < n → f i ≤ f k
+    pub first : (i : ℕ) → i < k → f i < f k
+
+  -- where a search for it begins
+  pub leads-one : LeadsAt 1 0
+  leads-one = record {
+    inside = omega arith;
+    most = λ i l. let e : i ≡ 0 = omega arith in rw e (omega arith);
+    first = λ i l. absurd (omega arith);
+  }
+
+  -- a turn of it: only a greater one leads from here on
+  pub leads-more : (n k : ℕ) → LeadsAt n k → LeadsAt (suc n) (cond (ltb (f k) (f n)) n k)
+  leads-more n k p = by (ltb (f k) (f n)) (ltb-true (f k) (f n)) (ltb-false (f k) (f n))
+    where
+      by : (b : Bool) → (b ≡ true → f k < f n) → (b ≡ false → f n ≤ f k) → LeadsAt (suc n) (cond b n k)
+      by true up down = record {
+        inside = omega arith;
+        most = λ i l. ⊎-elim (λ e. rw e (omega arith)) (λ h. omega (arith, p .most i h, up refl)) (eq-or-lt-of-le (le-of-suc-le-suc l));
+        first = λ i l. omega (arith, p .most i l, up refl);
+      }
+      by false up down = record {
+        inside = omega (arith, p .inside);
+        most = λ i l. ⊎-elim (λ e. rw e (down refl)) (λ h. p .most i h) (eq-or-lt-of-le (le-of-suc-le-suc l));
+        first = p .first;
+      }
+
+  -- that place is `firstGreatest`, and there is no second
+  pub leads-is : (n k : ℕ) → LeadsAt n k → firstGreatest n f ≡ k
+  unfolding firstGreatest
+  leads-is n k p = first-here test n k (p .inside) (first-end test k (λ i l. ne-eqb (f i) (greatestIn 0 n f) (λ e. omega (arith, p .first i l, top)))) (eq-eqb (f k) (greatestIn 0 n f) (sym top))
+    where
+      test : ℕ → Bool
+      test i = eqb (f i) (greatestIn 0 n f)
+
+      top : greatestIn 0 n f ≡ f k
+      top =
+          let low : f k ≤ greatestIn 0 n f = greatest-le 0 n f k (omega arith) (p .inside) in
+          let high : greatestIn 0 n f ≤ f k = greatest-of 0 n (omega (arith, p .inside)) f (λ (v : ℕ). v ≤ f k) (λ i z l. p .most i l) in
+          omega arith
+
+  -- of one number or more there is such a place
+  pub first-greatest-is : (n : ℕ) → 0 < n → LeadsAt n (firstGreatest n f)
+  first-greatest-is zero some = absurd (omega arith)
+  first-greatest-is (suc zero) some = rw (leads-is 1 0 leads-one) leads-one
+  first-greatest-is (suc (suc n)) some =
+      let next = leads-more (suc n) (firstGreatest (suc n) f) (first-greatest-is (suc n) (omega arith)) in
+      subst (LeadsAt (suc (suc n))) (sym (leads-is (suc (suc n)) _ next)) next

@@ -3,10 +3,10 @@ use Prim.Native.Nat.{ℕ, zero, suc, _+_, _-_, _*_, _≤_, _<_}
 use mathlib.Core.Bool.{false}
 use mathlib.Core.Logic.{_⊎_, inl, inr, ⊎-elim}
 use mathlib.Core.Path.{_≡_, refl, sym, ap, ap₂, _∙_}
-use native.Mathlib.Nat.{add-zero, add-comm, add-mul}
+use native.Mathlib.Nat.{add-zero, add-comm, add-mul, mul-add}
 use native.Mathlib.Omega.{arith}
 use lib.Dec.{ltb}
-use lib.IntN.{ℤ, pos, negsuc, natAbs, negℤ, _+ℤ_, _-ℤ_, _*ℤ_, +ℤ-assoc, +ℤ-comm, +ℤ-idl, +ℤ-idr, +ℤ-invr, negℤ-+ℤ, negℤ-negℤ}
+use lib.IntN.{ℤ, pos, negsuc, natAbs, negℤ, _+ℤ_, _-ℤ_, _*ℤ_, +ℤ-assoc, +ℤ-comm, +ℤ-idl, +ℤ-idr, +ℤ-invr, *ℤ-negsuc, negℤ-+ℤ, negℤ-negℤ}
 use lib.Signed.{ltZ}
 use borrow.Author.Tests.{lt-ltb, le-ltb, ltb-false}
 use Rattle.laws.specs.Sum.{sumTo}
@@ -135,6 +135,29 @@ pub ⊖-scale : (a b n : ℕ) → (a ⊖ b) *ℤ pos n ≡ a * n ⊖ b * n
         (ap negℤ (sym (⊖-zero ((b - a) * n)))
         ∙ ⊖-neg ((b - a) * n) 0
         ∙ ⊖-eq 0 ((b - a) * n) (a * n) (b * n) (omega (arith, split b a n (omega arith))))
+
+-- a product of two differences
+pub ⊖-times : (a b c d : ℕ) → (a ⊖ b) *ℤ (c ⊖ d) ≡ a * c + b * d ⊖ (a * d + b * c)
+⊖-times a b c d =
+    ⊎-elim
+    (λ l. rw (⊖-less c d l) (*ℤ-negsuc (a ⊖ b) (d - suc c) ∙ below l))
+    (λ g. rw (⊖-ge c d g) (⊖-scale a b (c - d) ∙ ⊖-eq (a * (c - d)) (b * (c - d)) (a * c + b * d) (a * d + b * c) (crossed a b d c g)))
+    (lt-or-ge c d)
+  where
+    crossed : (a b d c : ℕ) → d ≤ c → a * (c - d) + (a * d + b * c) ≡ a * c + b * d + b * (c - d)
+    crossed a b d c g =
+        let e : d + (c - d) ≡ c = omega arith in
+        let of-a : a * c ≡ a * d + a * (c - d) = ap (λ (k : ℕ). a * k) (sym e) ∙ mul-add a d (c - d) in
+        let of-b : b * c ≡ b * d + b * (c - d) = ap (λ (k : ℕ). b * k) (sym e) ∙ mul-add b d (c - d) in
+        omega arith
+
+    below : c < d → negℤ ((a ⊖ b) *ℤ pos (suc (d - suc c))) ≡ a * c + b * d ⊖ (a * d + b * c)
+    below l =
+        let e : suc (d - suc c) ≡ d - c = omega arith in
+        rw e
+        (ap negℤ (⊖-scale a b (d - c))
+        ∙ ⊖-neg (a * (d - c)) (b * (d - c))
+        ∙ ⊖-eq (b * (d - c)) (a * (d - c)) (a * c + b * d) (a * d + b * c) (omega (arith, crossed b a c d (omega arith))))
 
 -- a sum of differences is the difference of the sums
 pub ⊖-sum : (n : ℕ) (a b : ℕ → ℕ) → sumToℤ n (λ (i : ℕ). a i ⊖ b i) ≡ sumTo n a ⊖ sumTo n b

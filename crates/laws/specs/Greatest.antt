@@ -1,7 +1,8 @@
--- The greatest of whole numbers.
+-- The greatest of whole numbers, and where it stands first.
 use Prim.Native.Nat.{ℕ, zero, suc, _+_, _-_}
 use mathlib.Core.Bool.{cond}
-use lib.Dec.{ltb}
+use lib.Dec.{eqb, ltb}
+use Rattle.laws.specs.First.{firstTo}
 
 -- the greater of two
 abbrev pub greater : ℕ → ℕ → ℕ
@@ -16,3 +17,7 @@ greatestTo (suc n) f = greater (greatestTo n f) (f (suc n))
 unfoldable pub greatestIn : ℕ → ℕ → (ℕ → ℕ) → ℕ
 unfolding greatestTo
 greatestIn a b f = greatestTo (b - a - 1) (λ (k : ℕ). f (a + k))
+
+-- the first of 0 .. n − 1 at which f is the greatest of f 0, .., f (n − 1), where n is above 0
+unfoldable pub firstGreatest : ℕ → (ℕ → ℕ) → ℕ
+firstGreatest n f = firstTo n (λ (i : ℕ). eqb (f i) (greatestIn 0 n f))
