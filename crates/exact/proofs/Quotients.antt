@@ -1,22 +1,24 @@
 -- The laws of `quotient`, for numbers up to 2 ^ 53: nothing is then too small for all 53 digits, and nothing overflows.
-use Prim.Native.Nat.{ℕ, _*_, _/_, _^_, _≤_, _<_}
-use mathlib.Core.Bool.{true, false, not, true≢false}
+use Prim.Native.Nat.{ℕ, zero, suc, _+_, _*_, _/_, _^_, _≤_, _<_}
+use mathlib.Core.Bool.{Bool, true, false, not, cond, true≢false}
 use mathlib.Core.Logic.{⊎-elim}
 use mathlib.Core.Path.{_≡_, refl, sym, ap, _∙_}
 use native.Mathlib.Nat.{le-trans, le-of-eq, lt-of-le-of-lt, one-mul, zero-mul, mul-assoc, mul-le-mul-left, mul-le-mul-right, mul-pos, le-mul-of-pos-right, le-of-mul-le-mul-right, eq-zero-or-pos}
 use native.Mathlib.Omega.{arith}
-use lib.Dec.{T, lit≤, lit<}
+use lib.Dec.{T, ltb, lit≤, lit<}
+use lib.IntN.{ℤ, pos, negsuc, natAbs}
 use lib.Pow.{pow-pos}
-use lib.Ieee.{Float, nan, inf, fin, binary64, prec, low, size, round, le, isNan, ofBits, toBits}
+use lib.Signed.{ltZ}
+use lib.Ieee.{Float, nan, inf, fin, Format, binary64, prec, low, emax, size, odd, units, round, neg, le, isNan, ofBits, toBits}
 use lib.Ieee.Bits.{ofBits-toBits, toBits-ofBits, toBits-lt}
 use lib.Ieee.Exact.{HasValue}
 use lib.Ieee.Fits.{round-fits}
 use lib.Ieee.Order.{round-mono}
 use lib.Ieee.Positive.{num, den, den-pos, value→cross}
 use lib.Ieee.Scale.{grid, overflow, round-val, round-same, normal-of-fraction}
-use borrow.Author.Tests.{lt-ltb, le-leb}
-use Rattle.exact.specs.Quotient.{quotient, floatZero, castable, quotientOrZero}
-use Rattle.exact.specs.Bound.{plain, CloseTo, OnePattern}
+use borrow.Author.Tests.{lt-ltb, le-ltb, le-leb}
+use Rattle.exact.specs.Quotient.{quotient, signedQuotient, floatZero, castable, quotientOrZero}
+use Rattle.exact.specs.Bound.{plain, withoutSign, CloseTo, OnePattern}
 use Rattle.exact.proofs.Rounding.{Within, within-apart, apart-within, grid-within, within-value}
 
 -- the fractions that are rounded here
@@ -83,6 +85,40 @@ pub quotient-near : (p q : ℕ) → Ranged p q → CloseTo (2 ^ 52) (quotient p 
 quotient-near p q r =
     let x = quotient-close p q r in
     record { is-plain = x .is-plain; near = omega (arith, x .near) }
+
+-- ---- of a signed number: the same of its size, with the sign set
+pub signed-plain : (p q : ℕ) → signedQuotient (pos p) q ≡ quotient p q
+signed-plain p q = ap (λ (s : Bool). round binary64 s p q) (le-ltb p 0 (omega arith))
+
+-- a rounding below 0 is the mirror image of one above
+odd-neg : (d q k l : ℕ) → odd d true q k l ≡ neg (odd d false q k l)
+unfolding odd neg
+odd-neg d zero k l = refl
+odd-neg d (suc q) k l = refl
+
+units-neg : (f : Format) (q k : ℕ) → units f true q k ≡ neg (units f false q k)
+unfolding units neg
+units-neg f q k = by (ltb (q * 2 ^ k) (2 ^ (low f + suc (emax f))))
+  where
+    by : (b : Bool) → cond b (odd (suc (prec f)) true q k (low f)) (inf true) ≡ neg (cond b (odd (suc (prec f)) false q k (low f)) (inf false))
+    by true = odd-neg (suc (prec f)) q k (low f)
+    by false = refl
+
+round-neg : (f : Format) (p q : ℕ) → round f true p q ≡ neg (round f false p q)
+unfolding round
+round-neg f p q = units-neg f _ _
+
+twice-neg : (x : Float) → neg (neg x) ≡ x
+unfolding neg
+twice-neg nan = refl
+twice-neg (inf true) = refl
+twice-neg (inf false) = refl
+twice-neg (fin true m e) = refl
+twice-neg (fin false m e) = refl
+
+pub without-sign : (z : ℤ) (q : ℕ) → withoutSign z (signedQuotient z q) ≡ quotient (natAbs z) q
+without-sign (pos p) q = rw (le-ltb p 0 (omega arith))
+without-sign (negsuc p) q = ap neg (round-neg binary64 (suc p) q) ∙ twice-neg (quotient (suc p) q)
 
 -- ---- zero only where p is
 pub zero-only : (p q : ℕ) → Ranged p q → quotient p q ≡ floatZero → p ≡ 0

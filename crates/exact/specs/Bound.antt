@@ -2,12 +2,13 @@
 -- and m: when one float is at most another, and that one pattern of bits is read as it.
 -- A float x is its whole significand times a power of two; num x / den x is its size as a fraction (0 / 1 where x is no such number).
 use Prim.Native.Nat.{ℕ, _+_, _-_, _*_, _^_, _≤_, _<_}
-use mathlib.Core.Bool.{Bool, false, not}
+use mathlib.Core.Bool.{Bool, false, not, cond}
 use mathlib.Core.Path.{_≡_}
 use lib.Dec.{T}
-use lib.Ieee.{Float, nan, inf, fin, binary64, ofInt, le, ofBits}
+use lib.Ieee.{Float, nan, inf, fin, binary64, ofInt, neg, le, ofBits}
 use lib.Ieee.Positive.{num, den}
-use lib.IntN.{pos}
+use lib.IntN.{ℤ, pos}
+use lib.Signed.{ltZ}
 use Rattle.laws.specs.Signed.{apart}
 
 -- x is a number, finite and not negative: its sign is clear, so it is not −0 either
@@ -15,6 +16,10 @@ abbrev pub plain : Float → Bool
 plain nan = false
 plain (inf s) = false
 plain (fin s m e) = not s
+
+-- x with the sign of z taken off: turned where z is negative. Where that is a number, finite and not negative, x has the sign of z
+abbrev pub withoutSign : ℤ → Float → Float
+withoutSign z x = cond (ltZ z (pos 0)) (neg x) x
 
 -- x is such a number, and off p / q by at most one part in t of it, with denominators cleared
 pub record CloseTo (t : ℕ) (x : Float) (p q : ℕ) : Type 0 where

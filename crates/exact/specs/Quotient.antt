@@ -2,12 +2,17 @@
 use Prim.Native.Nat.{ℕ, _^_}
 use mathlib.Core.Bool.{Bool, false, cond, _&&_}
 use lib.Dec.{leb, ltb}
-use lib.IntN.{pos}
+use lib.IntN.{ℤ, pos, natAbs}
 use lib.Ieee.{Float, fin, binary64, round}
+use lib.Signed.{ltZ}
 
 -- p / q as a binary64: the exact fraction, rounded once to nearest, ties to even
 abbrev pub quotient : ℕ → ℕ → Float
 quotient p q = round binary64 false p q
+
+-- z / q of a signed number z, rounded once: the same of its size, with its sign; +0 where z is 0
+abbrev pub signedQuotient : ℤ → ℕ → Float
+signedQuotient z q = round binary64 (ltZ z (pos 0)) (natAbs z) q
 
 -- 0.0, all of whose bits are 0
 abbrev pub floatZero : Float
