@@ -1,5 +1,6 @@
 -- The laws of the frame of a call: from a verdict to the answer and its numbers, and back.
 use mathlib.Core.Path.{_≡_, refl}
+use Rattle.verdict.specs.Verdict.{_⨟_}
 use Rattle.verdict.specs.Answer.{answerOf, Paper, acceptedPaper, refusedPaper, paperFor, CountedPaper, acceptedCounted, refusedCounted, countedFor}
 use Rattle.verdict.specs.declared.Refusal.{Refusal}
 use Rattle.verdict.specs.declared.Verdict.{Verdict}
@@ -34,3 +35,9 @@ was-accepted (Refused r) other e = absurd (other r e)
 pub answer-same : {A : Type 0} (v : Verdict) {a b : A} (refusing : Refusal → A) → (v ≡ Clear → a ≡ b) → answerOf v a refusing ≡ answerOf v b refusing
 answer-same Clear refusing e = e refl
 answer-same (Refused r) refusing e = refl
+
+-- an answer on two verdicts in turn is the first's, and where that is clear the second's
+pub answer-then : {A : Type 0} (u v : Verdict) (a : A) (refusing : Refusal → A) → answerOf (u ⨟ v) a refusing ≡ answerOf u (answerOf v a refusing) refusing
+unfolding _⨟_
+answer-then Clear v a refusing = refl
+answer-then (Refused r) v a refusing = refl
