@@ -8,7 +8,6 @@ use native.Mathlib.Omega.{arith}
 use lib.Dec.{T, ltb, lit≤, lit<}
 use lib.IntN.{ℤ, pos, negsuc, natAbs}
 use lib.Pow.{pow-pos}
-use lib.Signed.{ltZ}
 use lib.Ieee.{Float, nan, inf, fin, Format, binary64, prec, low, emax, size, odd, units, round, neg, le, isNan, ofBits, toBits}
 use lib.Ieee.Bits.{ofBits-toBits, toBits-ofBits, toBits-lt}
 use lib.Ieee.Exact.{HasValue}

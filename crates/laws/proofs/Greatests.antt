@@ -9,7 +9,7 @@ use lib.Dec.{eqb, ltb}
 use borrow.Author.Tests.{ltb-true, ltb-false, eq-eqb, ne-eqb}
 use Rattle.laws.specs.Greatest.{greater, greatestTo, greatestIn, firstGreatest}
 use Rattle.laws.proofs.Cases.{lt-or-ge, true-or-false}
-use Rattle.laws.proofs.Firsts.{first-end, first-here}
+use Rattle.laws.proofs.Firsts.{first-end, first-here, first-ext}
 
 -- neither of two is above the greater
 left-le : (x y : ℕ) → x ≤ greater x y
@@ -128,3 +128,9 @@ module _ (f : ℕ → ℕ) where
   first-greatest-is (suc (suc n)) some =
       let next = leads-more (suc n) (firstGreatest (suc n) f) (first-greatest-is (suc n) (omega arith)) in
       subst (LeadsAt (suc (suc n))) (sym (leads-is (suc (suc n)) _ next)) next
+
+-- and it is told by what f is at the n places
+pub first-greatest-ext : (n : ℕ) (f g : ℕ → ℕ) → ((k : ℕ) → k < n → f k ≡ g k) → firstGreatest n f ≡ firstGreatest n g
+unfolding firstGreatest
+first-greatest-ext n f g h =
+    first-ext n _ _ (λ k l. ap₂ eqb (h k l) (greatest-ext 0 n (omega arith) f g (λ i _ p. h i p)))
