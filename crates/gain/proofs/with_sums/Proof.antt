@@ -1,0 +1,43 @@
+-- `with_sums` is right because a point within limits adds at most one greatest term to each sum, for which there is room.
+use Prim.Native.Nat.{_*_, _≤_}
+use native.Mathlib.Omega.{arith}
+use borrow.Author.Needs.{needs}
+use Rattle.laws.proofs.Cases.{times-le}
+use Rattle.gain.proofs.with_sums.Statement.{statement}
+use Rattle.gain.proofs.with_sums.Tie as tie
+
+-- at a chosen point
+module _ (c : tie.Then1) where
+  xy : c .before .args .x * c .before .args .y ≤ 17587891077120
+  xy = times-le (c .before .args .x) (c .before .args .y) 65520 268435456 (c .before .pre .1 .0) (c .before .pre .1 .1)
+
+  xx : c .before .args .x * c .before .args .x ≤ 4292870400
+  xx = times-le (c .before .args .x) (c .before .args .x) 65520 65520 (c .before .pre .1 .0) (c .before .pre .1 .0)
+
+add-t8 : tie.Need-add-t8
+add-t8 c = search needs
+
+add-t9 : tie.Need-add-t9
+add-t9 c = search needs
+
+mul-t10 : tie.Need-mul-t10
+mul-t10 c = omega (arith, xy (c .before .before))
+
+add-t11 : tie.Need-add-t11
+add-t11 c = omega (arith, xy (c .before .before .before))
+
+mul-t12 : tie.Need-mul-t12
+mul-t12 c = omega (arith, xx (c .before .before .before))
+
+add-t13 : tie.Need-add-t13
+add-t13 c = omega (arith, xx (c .before .before .before .before))
+
+returns : tie.Need-returns
+returns c = simp (c .before .before .before .before .if1 .taken)
+
+returns-2 : tie.Need-returns-2
+returns-2 c = simp (c .if1 .left)
+
+pub with-sums-spec : {M : Type 1} → statement M
+with-sums-spec =
+    tie.close (tie.spec add-t8 add-t9 mul-t10 add-t11 mul-t12 add-t13 returns returns-2)
