@@ -1,7 +1,8 @@
 /*
  * Tippovrain: a camera bench. Figures of noise, dark level, pattern, defects and colour from raw Bayer windows
- * that the caller lends. It allocates nothing, keeps nothing between two calls, prints nothing, and each call ends on
- * any input. Calls may run at the same time, so long as none writes what another one is lent.
+ * that the caller lends, and the gain from a list of such figures at several exposures. It allocates nothing, keeps
+ * nothing between two calls, prints nothing, and each call ends on any input. Calls may run at the same time, so long
+ * as none writes what another one is lent.
  *
  * Linking. libtippovrain.a is x86-64 code and needs nothing but the C library:
  *
@@ -47,7 +48,10 @@
  *    verdict or a refusal; at any other code they may be any number.
  *  - A plane is the sites of one row parity and one column parity. There are four, each width / 2 by height / 2:
  *    (0,0), (0,1), (1,0), (1,1), the row's parity first.
- *  - A buffer is a pointer and a length. The length counts elements, not bytes, and must be exactly what is said.
+ *  - A point is what was measured at one exposure: a mean, in sixteenths of a grey level, 0 to 65520, and a variance,
+ *    in sixteenths of a grey level squared, 0 to 2^28. It is a tip_point. A list has 1 to 64 points, numbered from 0.
+ *  - A buffer is a pointer and a length. The length counts elements, not bytes, and must be exactly what is said. Only
+ *    a list of points, of 1 to 64, and a stream, of any length, have no one length.
  *
  * Conventions of every call:
  *  - The result is the refusal's number, 0 where the call is accepted.
@@ -72,20 +76,22 @@
  *    1   a side is odd or not in 2..128
  *    2   the full scale is not in 1..4095
  *    3   another parameter is out of range: black level above full scale, threshold above 4095, Bayer order above 3,
- *        frame count above 100 (or 0 in the stack variance and pattern noise)
+ *        frame count above 100 (or 0 in the stack variance and pattern noise). In photon transfer: the list is empty
+ *        or has more than 64 points, a point of it, chosen or not, is out of limits, or the ends are outside the list
+ *        or reversed
  *    4   a lent buffer's length is not exactly the one needed
  *    5   a mask code is above 3
  *    6   a surveyed sample is above full scale; over says how many are
  *    7   too few: fewer than 2 surveyed sites (pair), none (dark level, stack variance, a plane's centre in colour
- *        ratios), or fewer than 2 frames (stack variance)
+ *        ratios), fewer than 2 frames (stack variance), or fewer than 2 chosen points (photon transfer)
  *    8   pattern noise, and some mask code is not 0
  *    9   the window is too small for the test: pattern noise needs 12 columns (vertical) or rows (horizontal),
  *        defective rows 18 rows, defective columns 18 columns, colour ratios a width of 64 and a height of 48
  *   10   the Gr total of a colour ratio is not above 0
  *   11   a stack's sums cannot come from its frame count
  *   12   a frame is offered to a stack of 100
- *   14   no call gives this number today; it is kept for a call to come, photon transfer: numerator or denominator is
- *        2^53 or more in size
+ *   13   photon transfer, and all chosen means are equal
+ *   14   photon transfer, and numerator or denominator is 2^53 or more in size
  *   20   a stream ends inside a field or before it
  *   21   a field of a stream has another tag than the next due
  *   22   a field of a stream has the wrong length
@@ -471,6 +477,59 @@ uint64_t tip_colour_ratios(size_t width, size_t height, uint64_t full_scale, uin
                            int64_t *r_numerator, uint64_t *r_denominator,
                            int64_t *b_numerator, uint64_t *b_denominator,
                            int64_t *gb_numerator, uint64_t *gb_denominator);
+
+/*
+ * A point of a photon transfer: what was measured at one exposure.
+ *
+ *   exposure   in any unit of the caller's: any number, and it changes nothing
+ *   mean       sixteenths of a grey level, 0 to 65520 (16 * 4095), with the black level or without
+ *   variance   sixteenths of a grey level squared, 0 to 268435456 (2^28)
+ */
+typedef struct {
+    uint64_t exposure, mean, variance;
+} tip_point;
+
+/*
+ * Photon transfer: the gain of a camera, in grey levels per electron (EMVA 1288), as the slope of the least squares
+ * line of variance against mean. Of the m points from first to last, both included, x is the mean and y the variance;
+ * Sx, Sy, Sxx and Sxy are the sums of x, y, x * x and x * y over them. The sixteenths cancel out.
+ *
+ *   points        1 to 64 points in any order, only read; those that are not chosen count for saturation and for 3
+ *   first, last   places in the list, from 0: first below last, last below points_len
+ *   place         written: 0
+ *   numerator     written: m * Sxy - Sx * Sy, below 2^53 in size; below 0 where the variance falls as the mean grows
+ *   denominator   written: m * Sxx - Sx * Sx, above 0 and at most 17583597158400
+ *   slope         written: numerator / denominator, rounded once, so off by at most one part in 2^53: the gain. It has
+ *                 the numerator's sign, and is 0, never -0, where the numerator is 0
+ *   saturation    written: the first place, from 0, of the greatest variance in the whole list, chosen or not
+ *
+ * A point is made of this library's figures of two frames of one exposure, each rounded half up:
+ *
+ *   mean       16 * numerator / denominator of tip_dark_level of the first frame, with black_level 0:
+ *              (32 * numerator + denominator) / (2 * denominator), in whole numbers
+ *   variance   16 * p / q of tip_pair_figures of both: (32 * p + q) / (2 * q), in whole numbers
+ *
+ * Nothing overflows here, and such a point is within limits whatever the frames: 16 * 4095 is 65520, and
+ * 16 * 4095 * 4095 / 2 is below 2^28. The black level need not be taken off: one number taken off all chosen means, or
+ * added to them, within limits, changes neither numerator nor denominator.
+ *
+ * Refusals, in the order tested: 3 (the list is empty or has more than 64 points, a mean above 65520 or a variance
+ * above 2^28 anywhere in it, chosen or not, last not below points_len, or first above last); 7 (fewer than two points
+ * are chosen: first is last); 13 (all chosen means are equal); 14 (numerator or denominator is 2^53 or more in size;
+ * within these limits only the numerator can be).
+ *
+ *   const tip_point points[5] = {{1, 1600, 840}, {2, 3200, 1640}, {4, 6400, 3240}, {8, 12800, 6440}, {16, 16368, 90}};
+ *   uint64_t place, denominator, saturation;
+ *   int64_t numerator;
+ *   double slope;
+ *   tip_photon_transfer(points, 5, 0, 2, &place, &numerator, &denominator, &slope, &saturation);
+ *                                       gives 0, and 17920000 / 35840000, slope 0.5, saturation 3
+ *
+ *   From 4 to 4 it gives 7, from 4 to 5 or from 2 to 0 it gives 3.
+ */
+uint64_t tip_photon_transfer(const tip_point *points, size_t points_len, size_t first, size_t last,
+                             uint64_t *place, int64_t *numerator, uint64_t *denominator, double *slope,
+                             uint64_t *saturation);
 
 /*
  * A whole job in one stream: two frames, their mask and numbers in, pair noise and the first frame's dark level out.
