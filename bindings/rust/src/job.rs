@@ -30,7 +30,7 @@ pub struct JobFigures {
 /// noise, then 3 of the dark level.
 ///
 /// ```
-/// use tippovrain::{job, Refusal};
+/// use tippovrain::{job, Call, Refusal};
 ///
 /// let mut stream = [
 ///     1, 0, 2, 0, 2, // width 2
@@ -49,11 +49,11 @@ pub struct JobFigures {
 /// assert_eq!(answer.dark.to_string(), "150/4");
 ///
 /// // cut inside field 3, which begins at byte 10
-/// assert_eq!(job(&stream[..12]), Err(Refusal { number: 20, place: 10, over: 0 }));
+/// assert_eq!(job(&stream[..12]), Err(Refusal { call: Call::Job, number: 20, place: 10, over: 0 }));
 ///
 /// // full scale 101: two samples of each frame are above it, the first of them at site 2
 /// stream[13..15].copy_from_slice(&[0, 101]);
-/// assert_eq!(job(&stream), Err(Refusal { number: 6, place: 2, over: 4 }));
+/// assert_eq!(job(&stream), Err(Refusal { call: Call::Job, number: 6, place: 2, over: 4 }));
 /// ```
 pub fn job(input: &[u8]) -> Result<JobFigures, Refusal> {
     let (sites, p, q, r, dark) = native::tip_job(input)?;

@@ -37,8 +37,8 @@
 //! # Answers
 //!
 //! A call answers `Ok` with its figures or `Err` with a [`Refusal`]; on a refusal every buffer stays as it was. Figures
-//! are exact: whole numbers, never reduced, and a rounded `f64` only where the library itself divides. A refusal has a
-//! number and a place; a 6 also says how many surveyed samples are above full scale.
+//! are exact: whole numbers, never reduced, and a rounded `f64` only where the library itself divides. A refusal has
+//! its call, a number and a place; a 6 also says how many surveyed samples are above full scale.
 //!
 //! A length cannot be misused: each goes to the library from its own slice, and one that is not exactly the length
 //! needed is refused with 4. Nor can a buffer that is written overlap another one, which C leaves to its caller: it is
@@ -60,6 +60,7 @@
 
 #![deny(missing_docs, unsafe_code)]
 
+mod call;
 mod colour;
 mod dark;
 mod figures;
@@ -75,6 +76,7 @@ mod sites;
 mod stack;
 mod window;
 
+pub use call::Call;
 pub use colour::{colour_ratios, BayerOrder, ColourRatios};
 pub use dark::dark_level;
 pub use figures::{Fraction, SignedFraction, Variance};

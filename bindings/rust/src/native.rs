@@ -1,6 +1,6 @@
 //! The C functions, and all `unsafe` of this crate. Each becomes a safe function of the same name over slices.
 
-use crate::Refusal;
+use crate::{Call, Refusal};
 
 /// What a refusal tells beside its number. `over` stays 0 where the C function does not write it.
 #[derive(Default)]
@@ -9,11 +9,11 @@ struct Told {
     over: u64,
 }
 
-/// A line declares a C function of include/tippovrain.h: the numbers it takes, the buffers it reads, those it writes,
-/// what it tells of a refusal, and the numbers it answers with. C's own order is the same.
+/// A line declares a C function of include/tippovrain.h: the call that it is, the numbers it takes, the buffers it
+/// reads, those it writes, what it tells of a refusal, and the numbers it answers with. C's own order is the same.
 macro_rules! calls {
     ($(
-        $call:ident($($number:ident: $number_type:ty),*)
+        $name:ident: $call:ident($($number:ident: $number_type:ty),*)
             reads($($read:ident: $read_type:ty),*)
             writes($($written:ident: $written_type:ty),*)
             tells($($told:ident),*)
@@ -51,74 +51,74 @@ macro_rules! calls {
             match number {
                 0 => Ok(($($answer,)*)),
                 // a place is a site or an offset in a stream, both far below usize::MAX
-                _ => Err(Refusal { number, place: told.place as usize, over: told.over }),
+                _ => Err(Refusal { call: Call::$name, number, place: told.place as usize, over: told.over }),
             }
         }
     )*};
 }
 
 calls! {
-    tip_unpack_raw10(width: usize, height: usize)
+    UnpackRaw10: tip_unpack_raw10(width: usize, height: usize)
         reads(bytes: u8)
         writes(out: u16)
         tells(place)
         answers();
-    tip_pair_figures(width: usize, height: usize, full_scale: u64)
+    PairFigures: tip_pair_figures(width: usize, height: usize, full_scale: u64)
         reads(mask: u8, first: u16, second: u16)
         writes()
         tells(place, over)
         answers(n: u64, p: u64, q: u64, r: u64, variance: f64, noise: f64);
-    tip_dark_level(width: usize, height: usize, full_scale: u64, black_level: u64)
+    DarkLevel: tip_dark_level(width: usize, height: usize, full_scale: u64, black_level: u64)
         reads(mask: u8, frame: u16)
         writes()
         tells(place, over)
         answers(numerator: i64, denominator: u64);
-    tip_stack_add(width: usize, height: usize, full_scale: u64, frames: u64)
+    StackAdd: tip_stack_add(width: usize, height: usize, full_scale: u64, frames: u64)
         reads(mask: u8, frame: u16)
         writes(sums: u32, squares: u32)
         tells(place, over)
         answers(count: u64);
-    tip_stack_variance(width: usize, height: usize, full_scale: u64, frames: u64)
+    StackVariance: tip_stack_variance(width: usize, height: usize, full_scale: u64, frames: u64)
         reads(mask: u8, sums: u32, squares: u32)
         writes()
         tells(place)
         answers(numerator: u64, denominator: u64, variance: f64);
-    tip_pattern_vertical(width: usize, height: usize, full_scale: u64, frames: u64)
+    PatternVertical: tip_pattern_vertical(width: usize, height: usize, full_scale: u64, frames: u64)
         reads(mask: u8, sums: u32)
         writes()
         tells(place)
         answers(level_numerator: u64, level_denominator: u64, max_numerator: u64, max_denominator: u64);
-    tip_pattern_horizontal(width: usize, height: usize, full_scale: u64, frames: u64)
+    PatternHorizontal: tip_pattern_horizontal(width: usize, height: usize, full_scale: u64, frames: u64)
         reads(mask: u8, sums: u32)
         writes()
         tells(place)
         answers(level_numerator: u64, level_denominator: u64, max_numerator: u64, max_denominator: u64);
-    tip_find_defects(width: usize, height: usize, full_scale: u64, threshold: u64)
+    FindDefects: tip_find_defects(width: usize, height: usize, full_scale: u64, threshold: u64)
         reads(mask: u8, frame: u16)
         writes(out_mask: u8)
         tells(place, over)
         answers(count: u64);
-    tip_repair(width: usize, height: usize, full_scale: u64)
+    Repair: tip_repair(width: usize, height: usize, full_scale: u64)
         reads(mask: u8, frame: u16)
         writes(out_frame: u16, out_mask: u8)
         tells(place, over)
         answers(filled: u64);
-    tip_defective_rows(width: usize, height: usize, full_scale: u64)
+    DefectiveRows: tip_defective_rows(width: usize, height: usize, full_scale: u64)
         reads(mask: u8, frame: u16)
         writes(marks: u8)
         tells(place, over)
         answers();
-    tip_defective_columns(width: usize, height: usize, full_scale: u64)
+    DefectiveColumns: tip_defective_columns(width: usize, height: usize, full_scale: u64)
         reads(mask: u8, frame: u16)
         writes(marks: u8)
         tells(place, over)
         answers();
-    tip_colour_ratios(width: usize, height: usize, full_scale: u64, black_level: u64, bayer_order: u64)
+    ColourRatios: tip_colour_ratios(width: usize, height: usize, full_scale: u64, black_level: u64, bayer_order: u64)
         reads(mask: u8, frame: u16)
         writes()
         tells(place, over)
         answers(r_numerator: i64, r_denominator: u64, b_numerator: i64, b_denominator: u64, gb_numerator: i64, gb_denominator: u64);
-    tip_job()
+    Job: tip_job()
         reads(input: u8)
         writes()
         tells(place, over)

@@ -41,7 +41,7 @@ pub struct PairFigures {
 /// counts both); 7 (fewer than 2 surveyed sites).
 ///
 /// ```
-/// use tippovrain::{pair_figures, Fraction, Refusal, Window};
+/// use tippovrain::{pair_figures, Call, Fraction, Refusal, Window};
 ///
 /// # fn main() -> Result<(), Refusal> {
 /// let mut window = Window { width: 2, height: 2, full_scale: 1023 };
@@ -64,7 +64,7 @@ pub struct PairFigures {
 /// // two samples of each frame are above this full scale, the first of them at site 2
 /// window.full_scale = 101;
 /// let refusal = pair_figures(window, &[0; 4], &first, &second).unwrap_err();
-/// assert_eq!(refusal, Refusal { number: 6, place: 2, over: 4 });
+/// assert_eq!(refusal, Refusal { call: Call::PairFigures, number: 6, place: 2, over: 4 });
 /// # Ok(())
 /// # }
 /// ```

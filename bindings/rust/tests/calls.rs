@@ -18,28 +18,38 @@ const fn window(width: usize, height: usize) -> Window {
 const FIRST: [u16; 4] = [100, 101, 102, 103];
 const SECOND: [u16; 4] = [101, 101, 102, 104];
 
-fn refused<T>(number: u64, place: usize) -> Result<T, Refusal> {
-    Err(Refusal {
-        number,
-        place,
-        over: 0,
-    })
+/// A refusal of a call, by number and place.
+fn refused<T>(call: Call) -> impl Fn(u64, usize) -> Result<T, Refusal> {
+    move |number, place| {
+        assert!(call.numbers().contains(&number));
+        Err(Refusal {
+            call,
+            number,
+            place,
+            over: 0,
+        })
+    }
 }
 
-/// Refusal 6, with how many samples are above full scale.
-fn above<T>(place: usize, over: u64) -> Result<T, Refusal> {
-    Err(Refusal {
-        number: 6,
-        place,
-        over,
-    })
+/// Refusal 6 of a call, by place and how many samples are above full scale.
+fn above<T>(call: Call) -> impl Fn(usize, u64) -> Result<T, Refusal> {
+    move |place, over| {
+        Err(Refusal {
+            call,
+            number: 6,
+            place,
+            over,
+        })
+    }
 }
 
 /// How a call on so many sites counts what is above full scale in one frame; any other is in range.
 fn counts_over<T: Debug + PartialEq>(
+    name: Call,
     sites: usize,
     call: impl Fn(&[u8], &[u16]) -> Result<T, Refusal>,
 ) {
+    let (refused, above) = (refused(name), above(name));
     let (mut mask, mut frame) = (vec![SURVEYED; sites], vec![100; sites]);
     frame[sites - 1] = 1024;
     assert_eq!(call(&mask, &frame), above(sites - 1, 1));
@@ -75,6 +85,7 @@ fn unsigned(numerator: u64, denominator: u64) -> Fraction {
 
 #[test]
 fn raw10() {
+    let refused = refused(Call::UnpackRaw10);
     let mut out = [7; 4];
     for (width, height, bytes) in [(3, 2, 5), (2, usize::MAX, 5), (0, 2, 0)] {
         assert_eq!(
@@ -93,6 +104,7 @@ fn raw10() {
 
 #[test]
 fn pair() {
+    let (refused, above) = (refused(Call::PairFigures), above(Call::PairFigures));
     let figures = |p, variance, r, noise| PairFigures {
         n: 4,
         variance: Variance {
@@ -136,8 +148,13 @@ fn pair() {
 /// Both frames are counted, whichever has the place.
 #[test]
 fn pair_over() {
-    counts_over(4, |mask, frame| pair_figures(SMALL, mask, frame, &FIRST));
-    counts_over(4, |mask, frame| pair_figures(SMALL, mask, &FIRST, frame));
+    let above = above(Call::PairFigures);
+    counts_over(Call::PairFigures, 4, |mask, frame| {
+        pair_figures(SMALL, mask, frame, &FIRST)
+    });
+    counts_over(Call::PairFigures, 4, |mask, frame| {
+        pair_figures(SMALL, mask, &FIRST, frame)
+    });
     let dim = Window {
         full_scale: 101,
         ..SMALL
@@ -157,6 +174,7 @@ fn pair_over() {
 
 #[test]
 fn dark() {
+    let refused = refused(Call::DarkLevel);
     assert_eq!(
         dark_level(SMALL, 64, &[0; 4], &[60, 64, 64, 64]),
         Ok(signed(-4, 4))
@@ -171,17 +189,21 @@ fn dark() {
         dark_level(SMALL, 64, &[GAP, DEFECT, FILLED, GAP], &[1024; 4]),
         refused(7, 0)
     );
-    counts_over(4, |mask, frame| dark_level(SMALL, 64, mask, frame));
+    counts_over(Call::DarkLevel, 4, |mask, frame| {
+        dark_level(SMALL, 64, mask, frame)
+    });
 }
 
 #[test]
 fn stack() {
+    let (refused, above) = (refused(Call::StackAdd), above(Call::StackAdd));
+    let no_variance = self::refused(Call::StackVariance);
     let mask = [0, 0, 0, GAP];
     let frame = [100, 101, 102, 65535];
     let (mut sums, mut squares) = ([0, 0, 0, 7], [0, 0, 0, 8]);
     assert_eq!(
         stack_variance(SMALL, 0, &mask, &sums, &squares),
-        refused(3, 0)
+        no_variance(3, 0)
     );
     assert_eq!(
         stack_add(SMALL, 0, &mask, &frame, &mut sums, &mut squares),
@@ -193,7 +215,7 @@ fn stack() {
     );
     assert_eq!(
         stack_variance(SMALL, 1, &mask, &sums, &squares),
-        refused(7, 0)
+        no_variance(7, 0)
     );
 
     let lent = (sums, squares);
@@ -233,9 +255,9 @@ fn stack() {
     squares[0] = 0;
     assert_eq!(
         stack_variance(SMALL, 2, &mask, &sums, &squares),
-        refused(11, 0)
+        no_variance(11, 0)
     );
-    counts_over(4, |mask, frame| {
+    counts_over(Call::StackAdd, 4, |mask, frame| {
         stack_add(SMALL, 0, mask, frame, &mut [0; 4], &mut [0; 4])
     });
 }
@@ -243,7 +265,8 @@ fn stack() {
 type Pattern = fn(Window, u64, &[u8], &[u32]) -> Result<PatternNoise, Refusal>;
 
 /// Twelve lines, two sites long; line 6 has 110, or 90, all others 100.
-fn pattern(call: Pattern, window: Window, line: [usize; 2]) {
+fn pattern(name: Call, call: Pattern, window: Window, line: [usize; 2]) {
+    let refused = refused(name);
     let mut sums = [100; 24];
     let noise = PatternNoise {
         level_squared: unsigned(800, 46047276),
@@ -271,13 +294,18 @@ fn pattern(call: Pattern, window: Window, line: [usize; 2]) {
 #[test]
 fn vertical_pattern() {
     let window = window(12, 2);
-    pattern(pattern_vertical, window, [6, 18]);
+    pattern(Call::PatternVertical, pattern_vertical, window, [6, 18]);
 }
 
 #[test]
 fn horizontal_pattern() {
     let window = window(2, 12);
-    pattern(pattern_horizontal, window, [12, 13]);
+    pattern(
+        Call::PatternHorizontal,
+        pattern_horizontal,
+        window,
+        [12, 13],
+    );
 }
 
 /// The lone site of K6 and K7, on both sides of the default and of 28.
@@ -296,6 +324,8 @@ fn thresholds() {
 
 #[test]
 fn defects_and_repair() {
+    let refused = refused(Call::FindDefects);
+    let (not_repaired, above) = (self::refused(Call::Repair), above(Call::Repair));
     let window = window(4, 4);
     let mut frame = [64; 16];
     frame[5] = 102;
@@ -329,11 +359,11 @@ fn defects_and_repair() {
     );
     assert_eq!(
         repair(window, &found, &frame, &mut samples[1..], &mut codes),
-        refused(4, 0)
+        not_repaired(4, 0)
     );
     assert_eq!(
         repair(window, &found, &frame, &mut samples, &mut codes[1..]),
-        refused(4, 0)
+        not_repaired(4, 0)
     );
     assert_eq!((samples, codes), ([9; 16], [9; 16]));
     assert_eq!(
@@ -342,10 +372,10 @@ fn defects_and_repair() {
     );
     one[5] = FILLED;
     assert_eq!((samples, codes), ([64; 16], one));
-    counts_over(16, |mask, frame| {
+    counts_over(Call::FindDefects, 16, |mask, frame| {
         find_defects(window, 28, mask, frame, &mut [9; 16])
     });
-    counts_over(16, |mask, frame| {
+    counts_over(Call::Repair, 16, |mask, frame| {
         repair(window, mask, frame, &mut [9; 16], &mut [9; 16])
     });
 }
@@ -353,7 +383,8 @@ fn defects_and_repair() {
 type Lines = fn(Window, &[u8], &[u16], &mut [u8]) -> Result<(), Refusal>;
 
 /// Nine lines to a plane; one site is at 103, all others at 100.
-fn lines(call: Lines, window: Window, site: usize, mark: usize) {
+fn lines(name: Call, call: Lines, window: Window, site: usize, mark: usize) {
+    let (refused, above) = (refused(name), above(name));
     let mut frame = [100; 36];
     frame[site] = 103;
     let turned = self::window(window.height, window.width);
@@ -375,23 +406,26 @@ fn lines(call: Lines, window: Window, site: usize, mark: usize) {
     let mut one = [0; 36];
     one[mark] = 1;
     assert_eq!(marks, one);
-    counts_over(36, |mask, frame| call(window, mask, frame, &mut [9; 36]));
+    counts_over(name, 36, |mask, frame| {
+        call(window, mask, frame, &mut [9; 36])
+    });
 }
 
 #[test]
 fn rows() {
     let window = window(2, 18);
-    lines(defective_rows, window, 17, 13);
+    lines(Call::DefectiveRows, defective_rows, window, 17, 13);
 }
 
 #[test]
 fn columns() {
     let window = window(18, 2);
-    lines(defective_columns, window, 26, 22);
+    lines(Call::DefectiveColumns, defective_columns, window, 26, 22);
 }
 
 #[test]
 fn colour() {
+    let refused = refused(Call::ColourRatios);
     let window = window(64, 48);
     // by parity of row and column: 65, 66 / 68, 72, so 1, 2 / 4, 8 above black
     let frame: Vec<u16> = (0..64 * 48)
@@ -436,7 +470,7 @@ fn colour() {
     // outside the centres too, and where the window would get 9
     let tall = self::window(64, 52);
     for (window, sites) in [(tall, 64 * 52), (SMALL, 4)] {
-        counts_over(sites, |mask, frame| {
+        counts_over(Call::ColourRatios, sites, |mask, frame| {
             colour_ratios(window, 64, BayerOrder::R, mask, frame)
         });
     }
@@ -444,6 +478,7 @@ fn colour() {
 
 #[test]
 fn jobs() {
+    let (refused, above) = (refused(Call::Job), above(Call::Job));
     let stream = include_bytes!("../../../crates/job/stdin");
     let figures = JobFigures {
         sites: 4,
@@ -480,35 +515,136 @@ fn jobs() {
     assert_eq!(dim(4), refused(5, 3));
 }
 
-#[test]
-fn refusals_in_words() {
-    let tabled = [
-        1, 2, 3, 4, 5, 6, 7, 8, 9, 10, 11, 12, 14, 20, 21, 22, 23, 24,
-    ];
-    let told = |number, over| Refusal {
+const CALLS: [Call; 13] = [
+    Call::UnpackRaw10,
+    Call::PairFigures,
+    Call::DarkLevel,
+    Call::StackAdd,
+    Call::StackVariance,
+    Call::PatternVertical,
+    Call::PatternHorizontal,
+    Call::FindDefects,
+    Call::Repair,
+    Call::DefectiveRows,
+    Call::DefectiveColumns,
+    Call::ColourRatios,
+    Call::Job,
+];
+
+fn told(call: Call, number: u64, over: u64) -> Refusal {
+    Refusal {
+        call,
         number,
         place: 3,
         over,
-    };
-    let unknown = told(0, 0).meaning();
-    let mut meanings: Vec<_> = tabled
-        .iter()
-        .map(|&number| told(number, 0).meaning())
-        .collect();
-    assert!(!meanings.contains(&unknown));
-    meanings.sort();
-    meanings.dedup();
-    assert_eq!(meanings.len(), tabled.len());
-
-    for (number, over, begins) in [
-        (5, 0, "refused 5 at site 3: a mask code"),
-        (6, 1, "refused 6 at site 3: 1 sample above full scale,"),
-        (6, 9, "refused 6 at site 3: 9 samples above full scale,"),
-        (22, 0, "refused 22 at byte 3: the length of the field"),
-        (12, 0, "refused 12: the stack is full"),
-    ] {
-        assert!(told(number, over).to_string().starts_with(begins));
     }
+}
+
+/// The header's text on a C function: the comment before its declaration.
+fn header_on(function: &str) -> &'static str {
+    let header = include_str!("../../../include/tippovrain.h");
+    let before = &header[..header.find(&format!("uint64_t {function}(")).unwrap()];
+    &before[before.rfind("/*").unwrap()..]
+}
+
+/// The numbers of the header's list of a C function's refusals: all that stand outside brackets.
+fn header_numbers(function: &str) -> Vec<u64> {
+    let (_, list) = header_on(function)
+        .split_once("Refusals, in the order tested:")
+        .unwrap();
+    let mut depth = 0;
+    let outside: String = list
+        .chars()
+        .filter(|letter| {
+            depth += i32::from(*letter == '(') - i32::from(*letter == ')');
+            depth == 0
+        })
+        .collect();
+    let list = outside.split('.').next().unwrap();
+    list.split(|letter: char| !letter.is_ascii_digit())
+        .filter_map(|number| number.parse().ok())
+        .collect()
+}
+
+/// Where the header has a list of a call's own.
+#[test]
+fn numbers_are_the_headers() {
+    for (function, call) in [
+        ("tip_unpack_raw10", Call::UnpackRaw10),
+        ("tip_pair_figures", Call::PairFigures),
+        ("tip_dark_level", Call::DarkLevel),
+        ("tip_stack_add", Call::StackAdd),
+        ("tip_stack_variance", Call::StackVariance),
+        ("tip_pattern_vertical", Call::PatternVertical),
+        ("tip_find_defects", Call::FindDefects),
+        ("tip_repair", Call::Repair),
+        ("tip_defective_rows", Call::DefectiveRows),
+        ("tip_colour_ratios", Call::ColourRatios),
+    ] {
+        assert_eq!(header_numbers(function), call.numbers(), "{function}");
+    }
+}
+
+/// A call has words of its own for each number that it gives, and one phrase for every other.
+#[test]
+fn words_for_each_number() {
+    let unknown = told(Call::Job, 0, 0).meaning();
+    for call in CALLS {
+        let mut meanings = Vec::new();
+        for number in 0..100 {
+            let meaning = told(call, number, 0).meaning();
+            assert_eq!(meaning != unknown, call.numbers().contains(&number));
+            if meaning != unknown {
+                meanings.push(meaning);
+            }
+        }
+        meanings.sort();
+        meanings.dedup();
+        assert_eq!(meanings.len(), call.numbers().len(), "{call:?}");
+    }
+}
+
+/// One number has the words of each call.
+#[test]
+fn words_of_the_call() {
+    for (call, number, begins) in [
+        (Call::DarkLevel, 3, "the black level is above"),
+        (Call::Job, 3, "the black level is above"),
+        (Call::FindDefects, 3, "the threshold is above 4095"),
+        (Call::StackAdd, 3, "the frame count is above 100"),
+        (Call::StackVariance, 3, "the frame count is not in 1"),
+        (Call::PairFigures, 7, "fewer than 2 sites"),
+        (Call::DarkLevel, 7, "no site is surveyed"),
+        (Call::ColourRatios, 7, "the centre of some plane"),
+        (Call::PatternVertical, 9, "the width is below 12"),
+        (Call::DefectiveRows, 9, "the height is below 18"),
+        (Call::StackAdd, 11, "the sums cannot come from"),
+        (Call::PatternHorizontal, 11, "a sum is above"),
+    ] {
+        let meaning = told(call, number, 0).meaning();
+        assert!(meaning.starts_with(begins), "{meaning}");
+    }
+    let needed = |call| told(call, 4, 0).meaning();
+    assert!(needed(Call::PairFigures).ends_with("width * height elements"));
+    assert!(needed(Call::UnpackRaw10).contains("width * height * 5 / 4 bytes"));
+    assert!(needed(Call::DefectiveRows).ends_with("2 * height marks"));
+    assert!(needed(Call::DefectiveColumns).ends_with("2 * width marks"));
+}
+
+/// A place is said as what it counts, and not said where it is always 0.
+#[test]
+fn refusals_printed() {
+    let begins = |call, number, over, text: &str| {
+        let printed = told(call, number, over).to_string();
+        assert!(printed.starts_with(text), "{printed}");
+    };
+    begins(Call::Job, 5, 0, "refused 5 at site 3: a mask code");
+    begins(Call::Repair, 6, 1, "refused 6 at site 3: 1 sample above");
+    begins(Call::Job, 6, 9, "refused 6 at site 3: 9 samples above");
+    begins(Call::Job, 22, 0, "refused 22 at byte 3: the length of");
+    begins(Call::Job, 24, 0, "refused 24: a side of the stream's");
+    begins(Call::StackAdd, 12, 0, "refused 12: the stack is full");
+    begins(Call::DarkLevel, 20, 0, "refused 20: this call does not");
     // an answer can go where any error goes
     let refusal = pair_figures(SMALL, &[], &[], &[]).unwrap_err();
     let error: Box<dyn std::error::Error> = Box::new(refusal);
