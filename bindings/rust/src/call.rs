@@ -30,6 +30,8 @@ pub enum Call {
     DefectiveColumns,
     /// [`colour_ratios`](crate::colour_ratios)
     ColourRatios,
+    /// [`photon_transfer`](crate::photon_transfer)
+    PhotonTransfer,
     /// [`job`](crate::job)
     Job,
 }
@@ -48,6 +50,7 @@ impl Call {
             Repair => &[1, 2, 4, 5, 6],
             DefectiveRows | DefectiveColumns => &[1, 2, 4, 5, 6, 9],
             ColourRatios => &[1, 2, 3, 4, 5, 6, 9, 7, 10],
+            PhotonTransfer => &[3, 7, 13, 14],
             Job => &[21, 20, 22, 1, 24, 23, 2, 5, 6, 7, 3],
         }
     }
@@ -58,6 +61,7 @@ impl Call {
             return UNKNOWN;
         }
         match (self, number) {
+            (PhotonTransfer, _) => of_points(number),
             (Job, 20..) => of_stream(number),
             (_, 1..=6) => of_window(self, number),
             _ => of_figures(self, number),
@@ -132,6 +136,19 @@ fn of_figures(call: Call, number: u64) -> &'static str {
 const IMPOSSIBLE_SUMS: &str = "the sums cannot come from the frame count: at a surveyed site the sum is above \
      frames * full scale, the sum of squares above frames * full scale squared, or frames * the sum of squares below \
      the square of the sum";
+
+fn of_points(number: u64) -> &'static str {
+    match number {
+        3 => {
+            "the list is empty or has more than 64 points; a point of it, chosen or not, has a mean above 65520 or a \
+             variance above 2^28, in sixteenths; or the ends are outside the list or reversed"
+        }
+        7 => "fewer than 2 points are chosen",
+        13 => "all chosen means are equal",
+        14 => "numerator or denominator is 2^53 or more in size",
+        _ => UNKNOWN,
+    }
+}
 
 fn of_stream(number: u64) -> &'static str {
     match number {

@@ -1,6 +1,7 @@
 //! Tippovrain: a camera bench. Figures of noise, dark level, pattern, defects and colour from raw Bayer windows that
-//! the caller lends. One safe function for each call of the proved C library; it allocates nothing, keeps nothing
-//! between two calls, prints nothing, and each call ends on any input.
+//! the caller lends, and the gain from a list of such figures at several exposures. One safe function for each call of
+//! the proved C library; it allocates nothing, keeps nothing between two calls, prints nothing, and each call ends on
+//! any input.
 //!
 //! # A first figure
 //!
@@ -22,7 +23,7 @@
 //! # }
 //! ```
 //!
-//! `examples/noise.rs` has the whole program.
+//! `examples/noise.rs` has the whole program; `examples/gain.rs` goes from frames at several exposures to a gain.
 //!
 //! # Units and ranges
 //!
@@ -33,6 +34,7 @@
 //! - **Mask**: a code for each site: [`SURVEYED`], [`GAP`], [`DEFECT`] or [`FILLED`]. Only samples and sums at surveyed
 //!   sites are read for a figure, a verdict or a refusal.
 //! - **Planes**: a window has four, by the parity of row and column: (0,0), (0,1), (1,0), (1,1), the row's first.
+//! - **Point**: what was measured at one exposure, [`Point`]: mean and variance in sixteenths.
 //!
 //! # Answers
 //!
@@ -41,8 +43,8 @@
 //! its call, a number and a place; a 6 also says how many surveyed samples are above full scale.
 //!
 //! A length cannot be misused: each goes to the library from its own slice, and one that is not exactly the length
-//! needed is refused with 4. Nor can a buffer that is written overlap another one, which C leaves to its caller: it is
-//! borrowed by `&mut`. Buffers that are only read may be one.
+//! needed is refused with 4, a list of another length than 1 to 64 points with 3. Nor can a buffer that is written
+//! overlap another one, which C leaves to its caller: it is borrowed by `&mut`. Buffers that are only read may be one.
 //!
 //! # Linking
 //!
@@ -64,6 +66,7 @@ mod call;
 mod colour;
 mod dark;
 mod figures;
+mod gain;
 mod job;
 mod lines;
 #[allow(unsafe_code)]
@@ -80,6 +83,7 @@ pub use call::Call;
 pub use colour::{colour_ratios, BayerOrder, ColourRatios};
 pub use dark::dark_level;
 pub use figures::{Fraction, SignedFraction, Variance};
+pub use gain::{photon_transfer, Gain, PhotonTransfer, Point};
 pub use job::{job, JobFigures};
 pub use lines::{defective_columns, defective_rows};
 pub use pair::{pair_figures, PairFigures};

@@ -1,6 +1,6 @@
 //! The C functions, and all `unsafe` of this crate. Each becomes a safe function of the same name over slices.
 
-use crate::{Call, Refusal};
+use crate::{Call, Point, Refusal};
 
 /// What a refusal tells beside its number. `over` stays 0 where the C function does not write it.
 #[derive(Default)]
@@ -10,12 +10,14 @@ struct Told {
 }
 
 /// A line declares a C function of include/tippovrain.h: the call that it is, the numbers it takes, the buffers it
-/// reads, those it writes, what it tells of a refusal, and the numbers it answers with. C's own order is the same.
+/// reads, those it writes, numbers that stand after these, what it tells of a refusal, and the numbers it answers with.
+/// C's own order is the same.
 macro_rules! calls {
     ($(
         $name:ident: $call:ident($($number:ident: $number_type:ty),*)
             reads($($read:ident: $read_type:ty),*)
             writes($($written:ident: $written_type:ty),*)
+            $(then($($later:ident: $later_type:ty),*))?
             tells($($told:ident),*)
             answers($($answer:ident: $answer_type:ty),*);
     )*) => {$(
@@ -25,12 +27,14 @@ macro_rules! calls {
             $($number: $number_type,)*
             $($read: &[$read_type],)*
             $($written: &mut [$written_type],)*
+            $($($later: $later_type,)*)?
         ) -> Result<($($answer_type,)*), Refusal> {
             extern "C" {
                 fn $call(
                     $($number: $number_type,)*
                     $($read: *const $read_type, _: usize,)*
                     $($written: *mut $written_type, _: usize,)*
+                    $($($later: $later_type,)*)?
                     $($told: *mut u64,)*
                     $($answer: *mut $answer_type,)*
                 ) -> u64;
@@ -44,6 +48,7 @@ macro_rules! calls {
                     $($number,)*
                     $($read.as_ptr(), $read.len(),)*
                     $($written.as_mut_ptr(), $written.len(),)*
+                    $($($later,)*)?
                     $(&mut told.$told,)*
                     $(&mut $answer,)*
                 )
@@ -118,6 +123,12 @@ calls! {
         writes()
         tells(place, over)
         answers(r_numerator: i64, r_denominator: u64, b_numerator: i64, b_denominator: u64, gb_numerator: i64, gb_denominator: u64);
+    PhotonTransfer: tip_photon_transfer()
+        reads(points: Point)
+        writes()
+        then(first: usize, last: usize)
+        tells(place)
+        answers(numerator: i64, denominator: u64, slope: f64, saturation: u64);
     Job: tip_job()
         reads(input: u8)
         writes()

@@ -10,16 +10,18 @@ use std::fmt;
 /// |---|---|
 /// | 1 | a side is odd or not in 2..128 sites |
 /// | 2 | the full scale is not in 1..4095 grey levels |
-/// | 3 | another parameter is out of range: a black level above full scale (dark level, colour ratios, job), a threshold above 4095 grey levels (finding defects), a frame count above 100 (stacks, pattern noise), or 0 (stack variance, pattern noise) |
+/// | 3 | another parameter is out of range: a black level above full scale (dark level, colour ratios, job), a threshold above 4095 grey levels (finding defects), a frame count above 100 (stacks, pattern noise), or 0 (stack variance, pattern noise). In photon transfer: the list is empty or has more than 64 points, a point of it, chosen or not, is out of limits, or the ends are outside the list or reversed |
 /// | 4 | a buffer's length is not exactly the one needed |
 /// | 5 | a mask code is above 3 |
 /// | 6 | a surveyed sample is above full scale: `over` says how many are |
-/// | 7 | too few: fewer than 2 surveyed sites (pair, job), none (dark level, stack variance, a plane's centre in colour ratios), or fewer than 2 frames (stack variance) |
+/// | 7 | too few: fewer than 2 surveyed sites (pair, job), none (dark level, stack variance, a plane's centre in colour ratios), fewer than 2 frames (stack variance), or fewer than 2 chosen points (photon transfer) |
 /// | 8 | pattern noise, and some mask code is not 0 |
 /// | 9 | the window is too small for the test (pattern noise, defective rows and columns, colour ratios) |
 /// | 10 | the Gr total of a colour ratio is not above 0 |
 /// | 11 | a stack's sums cannot come from its frame count (stacks, pattern noise) |
 /// | 12 | a frame is offered to a stack of 100 |
+/// | 13 | photon transfer, and all chosen means are equal |
+/// | 14 | photon transfer, and numerator or denominator is 2^53 or more in size |
 /// | 20 | a job's stream ends inside a field or before it |
 /// | 21 | another tag than the next due |
 /// | 22 | a field has the wrong length |

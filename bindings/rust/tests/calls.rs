@@ -515,7 +515,77 @@ fn jobs() {
     assert_eq!(dim(4), refused(5, 3));
 }
 
-const CALLS: [Call; 13] = [
+/// A list of points by mean and variance; the exposures are the greatest there are, and change nothing.
+fn points(of: &[(u64, u64)]) -> Vec<Point> {
+    of.iter()
+        .map(|&(mean, variance)| Point {
+            exposure: u64::MAX,
+            mean,
+            variance,
+        })
+        .collect()
+}
+
+fn transfer(
+    numerator: i64,
+    denominator: u64,
+    figure: f64,
+    saturation: usize,
+) -> Result<PhotonTransfer, Refusal> {
+    Ok(PhotonTransfer {
+        gain: Gain {
+            exact: signed(numerator, denominator),
+            figure,
+        },
+        saturation,
+    })
+}
+
+#[test]
+fn gain() {
+    // variance is twice the mean from 1 to 3, and greatest twice outside
+    let line = points(&[(9, 900), (100, 200), (200, 400), (300, 600), (9, 900)]);
+    assert_eq!(
+        photon_transfer(&line, 1, 3),
+        transfer(120_000, 60_000, 2.0, 0)
+    );
+    assert_eq!(
+        photon_transfer(&line[1..], 1, 2),
+        transfer(20_000, 10_000, 2.0, 3)
+    );
+    let fall = points(&[(0, 1), (3, 0)]);
+    assert_eq!(photon_transfer(&fall, 0, 1), transfer(-3, 9, -1.0 / 3.0, 0));
+    let flat = photon_transfer(&points(&[(0, 7), (1, 7)]), 0, 1).unwrap();
+    assert_eq!((flat.gain.exact, flat.saturation), (signed(0, 1), 0));
+    assert_eq!(flat.gain.figure.to_bits(), 0);
+}
+
+#[test]
+fn gain_refused() {
+    let refused = refused(Call::PhotonTransfer);
+    // each with all right that is tested before it, and something wrong that is tested after it
+    let alike = points(&[(5, 6); 65]);
+    for (count, first, last) in [(0, 0, 0), (65, 0, 0), (64, 1, 0), (64, 0, 64), (9, 9, 9)] {
+        assert_eq!(photon_transfer(&alike[..count], first, last), refused(3, 0));
+    }
+    assert_eq!(
+        photon_transfer(&alike[..9], usize::MAX, usize::MAX),
+        refused(3, 0)
+    );
+    for beyond in [(65_521, 0), (0, (1 << 28) + 1)] {
+        let list = points(&[(5, 6), (5, 6), beyond]);
+        assert_eq!(photon_transfer(&list, 0, 0), refused(3, 0));
+        assert_eq!(photon_transfer(&list, 1, 2), refused(3, 0));
+    }
+    assert_eq!(photon_transfer(&alike[..64], 63, 63), refused(7, 0));
+    assert_eq!(photon_transfer(&alike[..64], 0, 63), refused(13, 0));
+    // 32 points at 0 and 0, 32 at both limits
+    let mut ends = points(&[(0, 0); 64]);
+    ends[32..].fill(points(&[(65_520, 1 << 28)])[0]);
+    assert_eq!(photon_transfer(&ends, 0, 63), refused(14, 0));
+}
+
+const CALLS: [Call; 14] = [
     Call::UnpackRaw10,
     Call::PairFigures,
     Call::DarkLevel,
@@ -528,6 +598,7 @@ const CALLS: [Call; 13] = [
     Call::DefectiveRows,
     Call::DefectiveColumns,
     Call::ColourRatios,
+    Call::PhotonTransfer,
     Call::Job,
 ];
 
@@ -580,6 +651,7 @@ fn numbers_are_the_headers() {
         ("tip_repair", Call::Repair),
         ("tip_defective_rows", Call::DefectiveRows),
         ("tip_colour_ratios", Call::ColourRatios),
+        ("tip_photon_transfer", Call::PhotonTransfer),
     ] {
         assert_eq!(header_numbers(function), call.numbers(), "{function}");
     }
@@ -613,13 +685,17 @@ fn words_of_the_call() {
         (Call::FindDefects, 3, "the threshold is above 4095"),
         (Call::StackAdd, 3, "the frame count is above 100"),
         (Call::StackVariance, 3, "the frame count is not in 1"),
+        (Call::PhotonTransfer, 3, "the list is empty or"),
         (Call::PairFigures, 7, "fewer than 2 sites"),
         (Call::DarkLevel, 7, "no site is surveyed"),
         (Call::ColourRatios, 7, "the centre of some plane"),
+        (Call::PhotonTransfer, 7, "fewer than 2 points"),
         (Call::PatternVertical, 9, "the width is below 12"),
         (Call::DefectiveRows, 9, "the height is below 18"),
         (Call::StackAdd, 11, "the sums cannot come from"),
         (Call::PatternHorizontal, 11, "a sum is above"),
+        (Call::PhotonTransfer, 13, "all chosen means are equal"),
+        (Call::PhotonTransfer, 14, "numerator or denominator"),
     ] {
         let meaning = told(call, number, 0).meaning();
         assert!(meaning.starts_with(begins), "{meaning}");
@@ -644,7 +720,13 @@ fn refusals_printed() {
     begins(Call::Job, 22, 0, "refused 22 at byte 3: the length of");
     begins(Call::Job, 24, 0, "refused 24: a side of the stream's");
     begins(Call::StackAdd, 12, 0, "refused 12: the stack is full");
-    begins(Call::DarkLevel, 20, 0, "refused 20: this call does not");
+    begins(Call::PhotonTransfer, 3, 0, "refused 3: the list is");
+    begins(
+        Call::PhotonTransfer,
+        20,
+        0,
+        "refused 20: this call does not",
+    );
     // an answer can go where any error goes
     let refusal = pair_figures(SMALL, &[], &[], &[]).unwrap_err();
     let error: Box<dyn std::error::Error> = Box::new(refusal);
