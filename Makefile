@@ -11,7 +11,7 @@ VERSION := $(shell sed -n 's/^version = "\(.*\)"$$/\1/p' bindings/rust/Cargo.tom
 into = $(DESTDIR)$(PREFIX)
 # build.rs of the crate finds the library from here, as ../../../lib
 rust = $(into)/share/tippovrain/rust
-rust_sources := $(patsubst bindings/rust/%,%,$(wildcard $(addprefix bindings/rust/,Cargo.toml build.rs src/*.rs examples/*.rs)))
+rust_sources := $(patsubst bindings/rust/%,%,$(wildcard $(addprefix bindings/rust/,Cargo.toml build.rs src/*.rs examples/*)))
 
 define pkg_config_file
 prefix=$(PREFIX)
@@ -19,7 +19,7 @@ includedir=$${prefix}/include
 libdir=$${prefix}/lib
 
 Name: tippovrain
-Description: A camera bench: noise, dark level, pattern, defects and colour from raw Bayer windows
+Description: A camera bench: noise, dark level, pattern, defects, colour and gain from raw Bayer windows
 Version: $(VERSION)
 Cflags: -I$${includedir}
 Libs: -L$${libdir} -ltippovrain
