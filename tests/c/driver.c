@@ -1,6 +1,6 @@
 /*
  * Calls the library as a C program would. Each check is a line 'ok NAME' or 'FAILED NAME'; the last line counts
- * them; the exit status is 1 where one failed. One function for each call, listed in main.
+ * them; the exit status is 1 where one failed. The functions for the calls are listed in main.
  *
  * It is also built where no C library's headers are at hand (tests/c/run), so it takes nothing but printf from one.
  */
@@ -541,6 +541,102 @@ static void colour_ratios(void)
     check("tip_colour_ratios", "refused 5 at 3071", has_ratios(64, 300, 50, 0, codes, 5, 3071, 0, &none));
 }
 
+/* ---- tip_photon_transfer ---- */
+
+struct gain {
+    int64_t numerator;
+    uint64_t denominator;
+    double slope;
+    uint64_t saturation;
+};
+
+static int has_gain(const tip_point *points, size_t len, size_t first, size_t last, uint64_t number, const struct gain *gain)
+{
+    uint64_t at = UNWRITTEN;
+    struct gain got = {UNWRITTEN, UNWRITTEN, UNWRITTEN, UNWRITTEN};
+    return tip_photon_transfer(points, len, first, last, &at, &got.numerator, &got.denominator, &got.slope, &got.saturation) == number
+        && at == 0 && got.numerator == gain->numerator && got.denominator == gain->denominator
+        && bits(got.slope) == bits(gain->slope) && got.saturation == gain->saturation;
+}
+
+/* Four points, the one at `at` out of limits. */
+static int refuses_point(size_t at, uint64_t mean, uint64_t variance, size_t first, size_t last)
+{
+    static const struct gain none;
+    tip_point points[4] = {{0, 1, 5}, {0, 2, 6}, {0, 3, 7}, {0, 4, 8}};
+    points[at].mean = mean;
+    points[at].variance = variance;
+    return has_gain(points, 4, first, last, 3, &none);
+}
+
+/* Half of 64 points at 0 and 0, half at this mean and variance: the numerator is 1024 * mean * variance, falling or not. */
+static int has_halves(uint64_t mean, uint64_t variance, int falling, uint64_t number, const struct gain *gain)
+{
+    tip_point points[64];
+    for (size_t i = 0; i < 64; i++) {
+        points[i].exposure = i;
+        points[i].mean = i < 32 ? 0 : mean;
+        points[i].variance = (i < 32) == falling ? variance : 0;
+    }
+    return has_gain(points, 64, 0, 63, number, gain);
+}
+
+/* From 1 to 4 the line y = 2 * x. The greatest variance stands twice, outside these. */
+static const tip_point line[7] = {{9, 7, 900}, {5, 0, 0}, {5, 100, 200}, {0, 200, 400}, {UINT64_MAX, 300, 600}, {1, 7, 900}, {1, 7, 1}};
+
+static void gains(void)
+{
+    static const tip_point header[5] = {{1, 1600, 840}, {2, 3200, 1640}, {4, 6400, 3240}, {8, 12800, 6440}, {16, 16368, 90}};
+    static const tip_point tied[3] = {{1, 0, 3}, {2, 1, 4}, {3, 2, 4}}, falling[3] = {{1, 0, 2}, {2, 1, 0}, {3, 3, 0}};
+    static const tip_point level[3] = {{1, 0, 7}, {2, 65520, 7}, {3, 9, 7}}, limits[2] = {{0, 0, 0}, {UINT64_MAX, 65520, 268435456}};
+    static tip_point diagonal[64];
+    static const struct gain from_header = {17920000, 35840000, 0.5, 3}, twice = {400000, 200000, 2.0, 0}, tie = {3, 6, 0.5, 1},
+        fall = {-8, 14, -8.0 / 14.0, 0}, flat = {0, 8584561602, 0.0, 0}, steep = {17587891077120, 4292870400, 268435456.0 / 65520.0, 1},
+        count = {1397760, 1397760, 1.0, 63},
+        greatest = {9007199221186560, 1099511627776, 8192.0 - 1.0 / 32768.0, 32},
+        least = {-9007199221186560, 1099511627776, 1.0 / 32768.0 - 8192.0, 0};
+    const char *call = "tip_photon_transfer";
+
+    for (size_t i = 0; i < COUNT(diagonal); i++) diagonal[i].mean = diagonal[i].variance = i;
+    check(call, "the header's example", has_gain(header, 5, 0, 2, 0, &from_header));
+    check(call, "a line, greatest variance outside the chosen", has_gain(line, 7, 1, 4, 0, &twice));
+    check(call, "greatest variance at a tie", has_gain(tied, 3, 0, 2, 0, &tie));
+    check(call, "a falling line", has_gain(falling, 3, 0, 2, 0, &fall));
+    check(call, "a level line", has_gain(level, 3, 0, 2, 0, &flat));
+    check(call, "two points at the limits", has_gain(limits, 2, 0, 1, 0, &steep));
+    check(call, "64 points", has_gain(diagonal, 64, 0, 63, 0, &count));
+    check(call, "a numerator 2^25 below 2^53", has_halves(32768, 268435455, 0, 0, &greatest));
+    check(call, "the same falling", has_halves(32768, 268435455, 1, 0, &least));
+}
+
+static void refused_gains(void)
+{
+    static const tip_point upright[3] = {{1, 5, 0}, {2, 5, 268435456}, {3, 5, 6}};
+    static tip_point many[65];
+    static const struct gain none;
+    const char *call = "tip_photon_transfer";
+
+    for (size_t i = 0; i < COUNT(many); i++) many[i].mean = many[i].variance = i;
+    check(call, "refused 3, no point", has_gain(many, 0, 0, 0, 3, &none));
+    check(call, "refused 3, 65 points", has_gain(many, 65, 0, 63, 3, &none));
+    check(call, "refused 3, last is the length", has_gain(many, 64, 0, 64, 3, &none));
+    check(call, "refused 3, both ends the length, before 7", has_gain(many, 64, 64, 64, 3, &none));
+    check(call, "refused 3, last SIZE_MAX", has_gain(many, 64, 0, SIZE_MAX, 3, &none));
+    check(call, "refused 3, both ends SIZE_MAX", has_gain(many, 64, SIZE_MAX, SIZE_MAX, 3, &none));
+    check(call, "refused 3, ends reversed", has_gain(many, 64, 1, 0, 3, &none));
+    check(call, "refused 3, a chosen mean above its limit", refuses_point(1, 65521, 6, 0, 1));
+    check(call, "refused 3, a chosen variance above its limit", refuses_point(1, 2, 268435457, 0, 1));
+    check(call, "refused 3, a mean above its limit after the chosen", refuses_point(3, 65521, 8, 0, 2));
+    check(call, "refused 3, a variance above its limit before the chosen", refuses_point(0, 1, UINT64_MAX, 1, 3));
+    check(call, "refused 3, a mean above its limit, before 7", refuses_point(0, UINT64_MAX, 5, 2, 2));
+    check(call, "refused 7", has_gain(many, 64, 63, 63, 7, &none));
+    check(call, "refused 13", has_gain(upright, 3, 0, 2, 13, &none));
+    check(call, "refused 13, another mean that is not chosen", has_gain(line, 7, 5, 6, 13, &none));
+    check(call, "refused 14, halves at the limits", has_halves(65520, 268435456, 0, 14, &none));
+    check(call, "refused 14, a numerator of 2^53", has_halves(32768, 268435456, 0, 14, &none));
+    check(call, "refused 14, one of -2^53", has_halves(32768, 268435456, 1, 14, &none));
+}
+
 /* ---- tip_job ---- */
 
 /* The stream of K1, and a byte over. */
@@ -600,6 +696,8 @@ int main(void)
         sites,
         lines,
         colour_ratios,
+        gains,
+        refused_gains,
         job,
     };
 
