@@ -9,7 +9,7 @@ pub type Form<I, O> = fn(&I, &mut O);
 
 pub struct Contest<I, O> {
     pub call: &'static str,
-    /// The sides of the windows that are timed, which are square: the first inputs. The others, refusals among them, are
+    /// How many sites, or points, the inputs have that are timed: the first ones. The others, refusals among them, are
     /// only compared.
     pub timed: &'static [usize],
     pub inputs: Vec<(&'static str, I)>,
@@ -54,7 +54,7 @@ impl<I, O: Debug + PartialEq> Contested for Contest<I, O> {
     }
 
     fn time(&self) {
-        for (side, (window, input)) in self.timed.iter().zip(&self.inputs) {
+        for (sites, (window, input)) in self.timed.iter().zip(&self.inputs) {
             let least = self.least(input);
             let library = least[0];
             for ((form, _), plain) in self.plain.iter().zip(&least[1..]) {
@@ -64,7 +64,7 @@ impl<I, O: Debug + PartialEq> Contested for Contest<I, O> {
                     window,
                     form,
                     library,
-                    library / (side * side) as f64,
+                    library / *sites as f64,
                     plain,
                     library / plain
                 );

@@ -46,7 +46,7 @@ pub struct Output {
 pub fn contest() -> Contest<Input, Output> {
     Contest {
         call: "tip_colour_ratios",
-        timed: &[128],
+        timed: &[128 * 128],
         inputs: vec![
             ("128 x 128", input(128, 128, 0, |_| {})),
             ("66 x 50, order 3", input(66, 50, 3, |_| {})),

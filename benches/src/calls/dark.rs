@@ -38,7 +38,7 @@ pub struct Output {
 pub fn contest() -> Contest<Input, Output> {
     Contest {
         call: "tip_dark_level",
-        timed: &[128],
+        timed: &[128 * 128],
         inputs: vec![
             ("128 x 128", input(128, 1023, 64, |_| {})),
             ("below black", input(128, 1023, 1000, |_| {})),

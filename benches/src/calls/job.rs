@@ -32,7 +32,7 @@ pub struct Output {
 pub fn contest() -> Contest<Input, Output> {
     Contest {
         call: "tip_job",
-        timed: &[64],
+        timed: &[64 * 64],
         inputs: vec![
             ("64 x 64", stream(64, 64, |_| {})),
             ("2 x 4", stream(2, 4, |_| {})),

@@ -83,7 +83,7 @@ fn contest(
 ) -> Contest<Input, Output> {
     Contest {
         call,
-        timed: &[128],
+        timed: &[128 * 128],
         inputs: vec![
             ("128 x 128", input(128, 1023, |_| {})),
             (

@@ -2,6 +2,7 @@
 
 mod colour;
 mod dark;
+mod gain;
 mod job;
 mod lines;
 mod pair;
@@ -27,6 +28,7 @@ pub fn all() -> Vec<Box<dyn Contested>> {
         Box::new(lines::rows()),
         Box::new(lines::columns()),
         Box::new(colour::contest()),
+        Box::new(gain::contest()),
         Box::new(job::contest()),
     ]
 }

@@ -46,7 +46,7 @@ pub struct Output {
 pub fn contest() -> Contest<Input, Output> {
     Contest {
         call: "tip_pair_figures",
-        timed: &[128],
+        timed: &[128 * 128],
         inputs: vec![
             ("128 x 128", input(128, 1023, |_| {})),
             ("refused 2", input(128, 4096, |_| {})),

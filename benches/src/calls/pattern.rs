@@ -91,7 +91,7 @@ fn contest(
 ) -> Contest<Input, Output> {
     Contest {
         call,
-        timed: &[128],
+        timed: &[128 * 128],
         inputs: vec![
             ("128 x 128", input(128, 128, 50, |_| {})),
             ("12 x 12", input(12, 12, 1, |_| {})),

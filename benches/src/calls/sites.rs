@@ -62,7 +62,7 @@ pub struct Output {
 pub fn find_defects() -> Contest<Input, Output> {
     Contest {
         call: "tip_find_defects",
-        timed: &[128, 64, 32, 128, 128],
+        timed: &[128 * 128, 64 * 64, 32 * 32, 128 * 128, 128 * 128],
         inputs: vec![
             ("128 x 128", input(128, 128, mask, |_| {})),
             ("64 x 64", input(64, 64, mask, |_| {})),
@@ -101,7 +101,7 @@ pub fn find_defects() -> Contest<Input, Output> {
 pub fn repair() -> Contest<Input, Output> {
     Contest {
         call: "tip_repair",
-        timed: &[128],
+        timed: &[128 * 128],
         inputs: vec![
             ("128 x 128", input(128, 128, all_codes, |_| {})),
             (

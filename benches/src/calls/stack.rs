@@ -70,7 +70,7 @@ pub struct Varied {
 pub fn add() -> Contest<Input, Added> {
     Contest {
         call: "tip_stack_add",
-        timed: &[128],
+        timed: &[128 * 128],
         inputs: vec![
             ("128 x 128", input(128, 1023, 50, black)),
             ("the first", input(16, 1023, 0, |_| {})),
@@ -102,7 +102,7 @@ pub fn add() -> Contest<Input, Added> {
 pub fn variance() -> Contest<Input, Varied> {
     Contest {
         call: "tip_stack_variance",
-        timed: &[128],
+        timed: &[128 * 128],
         inputs: vec![
             ("128 x 128", input(128, 1023, 50, |_| {})),
             ("refused 3", input(16, 1023, 0, |_| {})),

@@ -30,7 +30,7 @@ pub struct Output {
 pub fn contest() -> Contest<Input, Output> {
     Contest {
         call: "tip_unpack_raw10",
-        timed: &[128],
+        timed: &[128 * 128],
         inputs: vec![
             ("128 x 128", input(128, 128, 20480, 16384)),
             ("refused 1", input(128, 130, 20800, 16640)),
