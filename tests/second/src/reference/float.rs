@@ -36,6 +36,16 @@ pub fn rounded_quotient(numerator: u128, denominator: u128) -> u64 {
     ((exponent + 1023) as u64) << 52 | (significand - (1 << 52))
 }
 
+/// The same of a signed numerator. Rounding is to the nearest, so the sign changes nothing else; 0
+/// has none.
+pub fn rounded_signed_quotient(numerator: i128, denominator: u128) -> u64 {
+    let size = rounded_quotient(numerator.unsigned_abs(), denominator);
+    match numerator {
+        ..=-1 => size | 1 << 63,
+        _ => size,
+    }
+}
+
 #[cfg(test)]
 mod tests {
     use super::*;
@@ -48,6 +58,15 @@ mod tests {
         assert_eq!(rounded_quotient(1, 3), 0x3FD5_5555_5555_5555);
         assert_eq!(rounded_quotient(2, 3), 0x3FE5_5555_5555_5555);
         assert_eq!(rounded_quotient(1, 10), 0x3FB9_9999_9999_999A);
+    }
+
+    #[test]
+    fn signed_quotients() {
+        assert_eq!(rounded_signed_quotient(0, 3), 0);
+        assert_eq!(rounded_signed_quotient(1, 3), 0x3FD5_5555_5555_5555);
+        assert_eq!(rounded_signed_quotient(-1, 3), 0xBFD5_5555_5555_5555);
+        assert_eq!(rounded_signed_quotient(-2, 1), (-2.0f64).to_bits());
+        assert_eq!(rounded_signed_quotient(-1, 10), (-0.1f64).to_bits());
     }
 
     #[test]
