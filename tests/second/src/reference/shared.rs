@@ -77,6 +77,17 @@ pub fn keep(kept: bool, law: &'static str) -> Law {
     }
 }
 
+/// What slips and the like are called, in a constant.
+pub const fn names<const N: usize, T>(named: &[(&'static str, T)]) -> [&'static str; N] {
+    let mut names = [""; N];
+    let mut at = 0;
+    while at < N {
+        names[at] = named[at].0;
+        at += 1;
+    }
+    names
+}
+
 fn side_is_legal(side: usize) -> bool {
     (2..=128).contains(&side) && side.is_multiple_of(2)
 }

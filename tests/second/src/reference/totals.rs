@@ -3,7 +3,7 @@
 
 use std::ops::{Add, RangeInclusive, Sub};
 
-use crate::shared::{surveyed, Window};
+use crate::shared::{names, surveyed, Window};
 use crate::sites::find_defects;
 
 /// A search that is accepted.
@@ -486,17 +486,6 @@ const NARROW: &[(&str, Slip)] = &[
 
 /// Both sides of the threshold: with 1 more or less in a sum the decision is another one.
 const EXACT: &[(&str, i64)] = &[("threshold met exactly", 0), ("threshold missed by 1", -1)];
-
-/// Their names, in a constant.
-const fn names<const N: usize, T>(named: &[(&'static str, T)]) -> [&'static str; N] {
-    let mut names = [""; N];
-    let mut at = 0;
-    while at < N {
-        names[at] = named[at].0;
-        at += 1;
-    }
-    names
-}
 
 /// All that cases can tell, and a run has to.
 pub const KINDS: &[&[&str]] = &[
