@@ -5,6 +5,7 @@ pub mod colour;
 pub mod counts;
 pub mod dark;
 pub mod float;
+pub mod gain;
 pub mod job;
 pub mod lines;
 pub mod pair;
