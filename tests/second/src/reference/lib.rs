@@ -16,3 +16,4 @@ pub mod shared;
 pub mod sites;
 pub mod stack;
 pub mod totals;
+pub mod transfers;
