@@ -7,23 +7,34 @@ use crate::library::Lent;
 
 pub type Spoiler<C> = fn(&mut C, &mut Dice);
 
-/// Every set of spoilers, the empty one included, each on a new case.
-/// They are applied in turn, so those that change contents come before those that change lengths.
+/// Runs every set of spoilers.
 pub fn every_set<C: Case>(
     tally: &mut Tally,
     dice: &mut Dice,
     make: impl Fn(&mut Dice) -> C,
     spoilers: &[Spoiler<C>],
 ) {
-    for set in 0..1u32 << spoilers.len() {
+    for case in sets(dice, make, spoilers) {
+        tally.run(case);
+    }
+}
+
+/// Every set of spoilers, the empty one included, each on a new case.
+/// They are applied in turn, so those that change contents come before those that change lengths.
+pub fn sets<'a, C: Case>(
+    dice: &'a mut Dice,
+    make: impl Fn(&mut Dice) -> C + 'a,
+    spoilers: &'a [Spoiler<C>],
+) -> impl Iterator<Item = C> + 'a {
+    (0..1u32 << spoilers.len()).map(move |set| {
         let mut case = make(dice);
         for (at, spoil) in spoilers.iter().enumerate() {
             if set >> at & 1 == 1 {
                 spoil(&mut case, dice);
             }
         }
-        tally.run(case);
-    }
+        case
+    })
 }
 
 /// Turns one side into an illegal one, the buffers staying as they are.
