@@ -4,10 +4,12 @@ mod colour;
 mod counts;
 mod dark;
 mod dice;
+mod gain;
 mod job;
 mod lines;
 mod pair;
 mod pattern;
+mod points;
 mod ranking;
 mod raw;
 mod shapes;
@@ -214,5 +216,11 @@ pub const CALLS: &[Call] = &[
         required: &[0, 1, 2, 3, 4, 5, 6],
         kinds: reference::totals::KINDS,
         round: totals::totals_of_finding,
+    },
+    Call {
+        name: "photon_transfer",
+        required: &[0, 3, 7, 13, 14],
+        kinds: reference::transfers::KINDS,
+        round: gain::photon_transfer,
     },
 ];

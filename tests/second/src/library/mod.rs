@@ -3,6 +3,7 @@
 
 pub mod colour;
 pub mod dark;
+pub mod gain;
 pub mod job;
 mod lent;
 pub mod lines;
