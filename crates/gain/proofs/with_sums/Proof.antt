@@ -6,7 +6,7 @@ use Rattle.laws.proofs.Cases.{times-le}
 use Rattle.gain.proofs.with_sums.Statement.{statement}
 use Rattle.gain.proofs.with_sums.Tie as tie
 
--- at a chosen point
+-- the products of a point within limits
 module _ (c : tie.Then1) where
   xy : c .before .args .x * c .before .args .y ≤ 17587891077120
   xy = times-le (c .before .args .x) (c .before .args .y) 65520 268435456 (c .before .pre .1 .0) (c .before .pre .1 .1)
@@ -21,16 +21,16 @@ add-t9 : tie.Need-add-t9
 add-t9 c = search needs
 
 mul-t10 : tie.Need-mul-t10
-mul-t10 c = omega (arith, xy (c .before .before))
+mul-t10 c = omega (arith, xy (c .before .before), xx (c .before .before))
 
 add-t11 : tie.Need-add-t11
-add-t11 c = omega (arith, xy (c .before .before .before))
+add-t11 c = omega (arith, xy (c .before .before .before), xx (c .before .before .before))
 
 mul-t12 : tie.Need-mul-t12
-mul-t12 c = omega (arith, xx (c .before .before .before))
+mul-t12 c = omega (arith, xy (c .before .before .before), xx (c .before .before .before))
 
 add-t13 : tie.Need-add-t13
-add-t13 c = omega (arith, xx (c .before .before .before .before))
+add-t13 c = omega (arith, xy (c .before .before .before .before), xx (c .before .before .before .before))
 
 returns : tie.Need-returns
 returns c = simp (c .before .before .before .before .if1 .taken)
