@@ -54,6 +54,9 @@ use Rattle.colour.specs.Colour.{colourVerdict, colourPaper}
 use Rattle.colour.specs.Colour as ratios
 use Rattle.colour.proofs.Judged as colour-table
 use Rattle.colour.proofs.Promises as colour
+use Rattle.gain.specs.Gain.{Curve, transferVerdict, transferPaper}
+use Rattle.gain.specs.Gain as transfers
+use Rattle.gain.proofs.Promises as gain
 use Rattle.stream.specs.Stream.{widthOf, heightOf, fullOf, maskOf, firstOf, secondOf}
 use Rattle.stream.specs.Job.{jobVerdict, jobPaper}
 use Rattle.stream.specs.Job as jobs
@@ -122,13 +125,18 @@ pub record Demand1 : Type 0 where
       → let paper = colourPaper w h full black order mask frame in
       RefusingOver (colourVerdict w h full black order mask frame) (colour-table.tests w h full black order mask frame) paper (overFull w h full (seen mask frame))
       (paper .figures ≡ ratios.noFigures)
+  -- of any list of points, as structs or as rows
+  pub photon-transfer : (c : Curve) (first last : ℕ)
+      → let paper = transferPaper c first last in
+      Refusing (transferVerdict c first last) (gain.tests c first last) paper
+      (paper .figures ≡ transfers.noGain)
   pub job : (s : List ℕ)
       → let paper = jobPaper s in
       RefusingOver (jobVerdict s) (stream.tests s) paper (overFull (widthOf s) (heightOf s) (fullOf s) (seen (maskOf s) (firstOf s)) + overFull (widthOf s) (heightOf s) (fullOf s) (seen (maskOf s) (secondOf s)))
       (paper .figures ≡ jobs.noFigures)
 
 pub demand-1 : Demand1
-unfolding unpackPaper pairPaper darkPaper addPaper variance.variancePaper patternPaper findPaper repairPaper linesPaper colourPaper jobPaper
+unfolding unpackPaper pairPaper darkPaper addPaper variance.variancePaper patternPaper findPaper repairPaper linesPaper colourPaper transferPaper jobPaper
 demand-1 = record {
   unpack-raw10 = λ w h bytes out. record { given = raw.given w h bytes out; told = (refl, refl, never-over _ (raw.given w h bytes out) refl refl); refused = raw.refused w h bytes out };
   pair-figures = λ w h full mask first second. record { given = pair.given w h full mask first second; told = (refl, refl, refl); refused = pair.refused w h full mask first second };
@@ -140,6 +148,7 @@ demand-1 = record {
   repair = λ w h full mask frame outFrame outMask. record { given = repairing.given w h full mask frame outFrame outMask; told = (refl, refl, refl); refused = repairing.refused w h full mask frame outFrame outMask };
   defective-lines = λ lines w h full mask frame marks. record { given = marking.given lines w h full mask frame marks; told = (refl, refl, refl); refused = marking.refused lines w h full mask frame marks };
   colour-ratios = λ w h full black order mask frame. record { given = colour.given w h full black order mask frame; told = (refl, refl, refl); refused = colour.refused w h full black order mask frame };
+  photon-transfer = λ c first last. record { given = gain.given c first last; told = (refl, refl, never-over _ (gain.given c first last) refl refl); refused = gain.refused c first last };
   job = λ s. record { given = stream.given s; told = (refl, refl, refl); refused = stream.refused s };
 }
 
@@ -166,6 +175,8 @@ pub record Numbers : Type 0 where
       → line-marks.paperOf (line-marks.linesAnswer lines w h full mask frame (length marks)) ≡ linesPaper lines w h full mask frame (length marks)
   pub colour-ratios : (w h full black order : ℕ) (mask frame : List ℕ)
       → ratios.paperOf (ratios.colourAnswer w h full black order mask frame) ≡ colourPaper w h full black order mask frame
+  pub photon-transfer : (c : Curve) (first last : ℕ)
+      → transfers.paperOf (transfers.transferAnswer c first last) ≡ transferPaper c first last
   pub job : (s : List ℕ)
       → jobs.paperOf (jobs.jobAnswer s) ≡ jobPaper s
 
@@ -181,5 +192,6 @@ numbers = record {
   repair = repairing.paper-is;
   defective-lines = marking.paper-is;
   colour-ratios = colour.paper-is;
+  photon-transfer = gain.paper-is;
   job = stream.paper-is;
 }

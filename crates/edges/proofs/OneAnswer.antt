@@ -25,6 +25,8 @@ use Rattle.lines.specs.Marks.{linesAnswer, linesBuffer}
 use Rattle.lines.proofs.Promises as marking
 use Rattle.colour.specs.Colour.{colourAnswer}
 use Rattle.colour.proofs.Promises as colour
+use Rattle.gain.specs.Gain.{Curve, transferAnswer}
+use Rattle.gain.proofs.Promises as gain
 use Rattle.stream.specs.Job.{jobAnswer}
 use Rattle.stream.proofs.Promises as stream
 
@@ -49,6 +51,8 @@ pub record OneAnswer : Type 0 where
   pub defective-lines : (lines : ℕ → ℕ → plane-lines.Lines) (w h full : ℕ) (mask frame marks : List ℕ)
       → Sole (linesAnswer lines w h full mask frame (length marks)) × Sole (linesBuffer lines w h full mask frame marks)
   pub colour-ratios : (w h full black order : ℕ) (mask frame : List ℕ) → Sole (colourAnswer w h full black order mask frame)
+  -- of any list of points, as structs or as rows
+  pub photon-transfer : (c : Curve) (first last : ℕ) → Sole (transferAnswer c first last)
   pub job : (s : List ℕ) → Sole (jobAnswer s)
 
 pub one-answer : OneAnswer
@@ -63,5 +67,6 @@ one-answer = record {
   repair = repairing.only;
   defective-lines = marking.only;
   colour-ratios = colour.only;
+  photon-transfer = gain.only;
   job = stream.only;
 }

@@ -1,8 +1,8 @@
 -- Every row of the table holds by computing both sides.
 use mathlib.Core.Path.{refl}
-use lib.Ieee.{round, ofBits}
+use lib.Ieee.{size, odd, units, round, ofBits}
 use Rattle.laws.specs.First.{firstTo}
-use Rattle.laws.specs.Greatest.{greatestTo, greatestIn}
+use Rattle.laws.specs.Greatest.{greatestTo, greatestIn, firstGreatest}
 use Rattle.laws.specs.Signed.{_⊖_, sumToℤ}
 use Rattle.laws.specs.Sum.{sumTo, sumIn, sumBox}
 use Rattle.laws.specs.Table.{tabulate}
@@ -24,7 +24,9 @@ use Rattle.near.specs.Near.{nearSum}
 use Rattle.sites.specs.Find.{usedThreshold, far, foundAt, markedAt, foundCount, findVerdict, findAnswer, findMask}
 use Rattle.lines.specs.Lines.{before, after, pooled, defective, markOf, markAt}
 use Rattle.lines.specs.Marks.{linesVerdict, linesAnswer, linesBuffer}
-use Rattle.edges.specs.Table.{Edges, Beside}
+use Rattle.gain.specs.Slope.{jointSpread, allEqual}
+use Rattle.gain.specs.Gain.{outOfLimits, badList, badEnds, tooLarge, transferVerdict, transferAnswer}
+use Rattle.edges.specs.Table.{Edges, Beside, Transfers}
 
 pub edges : Edges
 unfolding round ofBits firstTo greatestTo greatestIn _⊖_ sumToℤ sumTo sumIn sumBox tabulate shapeOf maskVerdict frameVerdict boxSum badSide badSides badScale sitesOf _⨟_ refuseWith refuseFirst samplesIn overIn seenAt seen one root rootTo joined sampleAt unpackVerdict unpackAnswer unpackBuffer numerator spreadOf framesVerdict pairVerdict pairAnswer aboveBlack darkVerdict darkAnswer nearSum usedThreshold far foundAt markedAt foundCount findVerdict findAnswer findMask lineTotal stepOf tenAround standsOut deviation figuresOf badCount patternVerdict patternAnswer before after pooled defective markOf markAt linesVerdict linesAnswer linesBuffer
@@ -57,4 +59,21 @@ beside = record {
   over-behind-code = refl;
   met-unmarked = refl;
   met-marked = refl;
+}
+
+pub transfers : Transfers
+unfolding size odd units round ofBits firstTo greatestTo greatestIn firstGreatest _⊖_ sumTo _⨟_ refuseWith jointSpread allEqual outOfLimits badList badEnds tooLarge transferVerdict transferAnswer
+transfers = record {
+  straight = refl;
+  outside-the-chosen = refl;
+  falling = refl;
+  level = refl;
+  exchanged = refl;
+  past-the-list = refl;
+  empty = refl;
+  over-limit = refl;
+  at-limit = refl;
+  one-point = refl;
+  equal-means = refl;
+  too-large = (refl, refl);
 }

@@ -1,11 +1,12 @@
 -- Document 01, "Both sides of each edge": the worked examples K1 to K10 as one table of equations, and beside them what they leave open and what document 02 adds.
-use Prim.Native.Nat.{ℕ, _/_, _%_}
-use mathlib.Core.Bool.{false, cond, _&&_}
-use mathlib.Core.List.{List, [], _∷_}
+use Prim.Native.Nat.{ℕ, _/_, _%_, _^_}
+use mathlib.Core.Bool.{true, false, cond, _&&_}
+use mathlib.Core.List.{List, [], _∷_, _++_}
 use mathlib.Core.Path.{_≡_}
 use lib.Dec.{eqb, ltb}
-use lib.Ieee.{fin, binary64, ofBits}
-use lib.IntN.{negsuc}
+use lib.Ieee.{Float, fin, binary64, ofBits}
+use lib.IntN.{ℤ, pos, negsuc}
+use lib.ListN.{replicate}
 use Rattle.laws.specs.Table.{tabulate}
 use Rattle.verdict.specs.Verdict.{refusal, refusalOver}
 use Rattle.raw.specs.Unpack.{unpackAnswer, unpackBuffer}
@@ -22,6 +23,11 @@ use Rattle.sites.specs.declared.Defects.the-variants as sites
 use Rattle.lines.specs.Lines.{rows}
 use Rattle.lines.specs.Marks.{linesAnswer, linesBuffer}
 use Rattle.lines.specs.declared.Marked.the-variants as lines
+use Rattle.gain.specs.Gain.{curveOf, chosen, numerator, transferAnswer}
+use Rattle.gain.specs.declared.Point.{Point}
+use Rattle.gain.specs.declared.Gain.{Gain}
+use Rattle.gain.specs.declared.Transfer.{Transfer}
+use Rattle.gain.specs.declared.Transfer.the-variants as gain
 
 -- n of one value
 abbrev all : ℕ → ℕ → List ℕ
@@ -123,3 +129,44 @@ pub record Beside : Type 0 where
   -- a row met as often as the mirror meets it, itself twice: nine sites at 103 and two at 102 are not marked, ten and one are
   pub met-unmarked : linesBuffer rows 22 18 1023 (all 396 0) (raised 194) (all 36 0) ≡ all 36 0
   pub met-marked : linesBuffer rows 22 18 1023 (all 396 0) (raised 196) (all 36 0) ≡ but 36 0 4 1
+
+-- document 02 e: an exposure with its mean and its variance, in sixteenths
+abbrev point : ℕ → ℕ → ℕ → Point
+point exposure mean variance = record { exposure = exposure; mean = mean; variance = variance }
+
+-- y = 2x, and then a fourth point with the variance of the third
+abbrev doubling : List Point
+doubling = point 1 10 20 ∷ point 2 20 40 ∷ point 3 30 60 ∷ point 4 40 60 ∷ []
+
+-- of such a list the points from first to last
+abbrev Transferred : List Point → ℕ → ℕ → Transfer → Type 0
+Transferred points first last answer = transferAnswer (curveOf points) first last ≡ answer
+
+abbrev measured : ℤ → ℕ → Float → ℕ → Transfer
+measured top bottom slope place = gain.Measured (record { numerator = top; denominator = bottom; slope = slope; saturation = place })
+
+-- 32 points at 0 and 0, and 32 at both limits
+abbrev atLimits : List Point
+atLimits = replicate 32 (point 1 0 0) ++ replicate 32 (point 2 65520 (2 ^ 28))
+
+pub record Transfers : Type 0 where
+  -- a gain of 2, 1200/600; the greatest variance, 60, stands first at place 2
+  pub straight : Transferred doubling 0 2 (measured (pos 1200) 600 (fin false 1 (pos 1)) 2)
+  -- two points of it: 200/100, and the saturation is at a place that is not chosen
+  pub outside-the-chosen : Transferred doubling 0 1 (measured (pos 200) 100 (fin false 1 (pos 1)) 2)
+  -- variance that falls: −1200/600
+  pub falling : Transferred (point 1 10 60 ∷ point 2 20 40 ∷ point 3 30 20 ∷ []) 0 2 (measured (negsuc 1199) 600 (fin true 1 (pos 1)) 0)
+  -- equal variances: 0/600, +0
+  pub level : Transferred (point 1 10 7 ∷ point 2 20 7 ∷ point 3 30 7 ∷ []) 0 2 (measured (pos 0) 600 (ofBits binary64 0) 0)
+  -- the ends exchanged; past the list; no list
+  pub exchanged : Transferred doubling 2 0 (gain.Refused (refusal 3 0))
+  pub past-the-list : Transferred doubling 0 4 (gain.Refused (refusal 3 0))
+  pub empty : Transferred [] 0 0 (gain.Refused (refusal 3 0))
+  -- a point out of limits that is not chosen comes before 7; at its limits a point is legal
+  pub over-limit : Transferred (point 1 65521 0 ∷ point 2 20 40 ∷ []) 1 1 (gain.Refused (refusal 3 0))
+  pub at-limit : Transferred (point 1 65520 (2 ^ 28) ∷ point 2 20 40 ∷ []) 1 1 (gain.Refused (refusal 7 0))
+  -- one point, whose mean is then the only one: 7 comes before 13
+  pub one-point : Transferred doubling 1 1 (gain.Refused (refusal 7 0))
+  pub equal-means : Transferred (point 1 10 20 ∷ point 2 10 40 ∷ []) 0 1 (gain.Refused (refusal 13 0))
+  -- document 02's 14
+  pub too-large : (numerator (chosen (curveOf atLimits) 0 63) ≡ pos 18010000462970880) × Transferred atLimits 0 63 (gain.Refused (refusal 14 0))
