@@ -25,7 +25,6 @@ use Rattle.lines.specs.Marks.{linesAnswer, linesBuffer}
 use Rattle.lines.specs.declared.Marked.the-variants as lines
 use Rattle.gain.specs.Gain.{curveOf, chosen, numerator, transferAnswer}
 use Rattle.gain.specs.declared.Point.{Point}
-use Rattle.gain.specs.declared.Gain.{Gain}
 use Rattle.gain.specs.declared.Transfer.{Transfer}
 use Rattle.gain.specs.declared.Transfer.the-variants as gain
 

@@ -219,9 +219,12 @@ module _ {M : Type 1} (𝓤 : URA M) (H : Heap 𝓤) (A : Atoms 𝓤) (W : Given
   exits : low < 2 ^ 64 → high < 2 ^ 64 → Is G.the-row found (ans found ∷ []) → ent 𝓤 (⋆ 𝓤 H A (‵ (flft κ q) ∷ ‵ Own ∷ [])) (Post (ans found))
   exits gl gh is =
       qed W (‵ (flft κ q) ∷ ‵ Own ∷ []) ∵
-      suffices ! _ (ends-at 𝓤 H A transfer.ended stayed (transfer.clauses 𝓤 H A mem run) W (((κ, tt), (q, tt), tt, (d, (low, (high, tt))), at), tt) (ans found) found (tt, (tt, (tt, tt))) (tt, (tt, (tt, tt)))) $ says-both ! (answered (curveOf ys) low high n (after n) found refl refl refl) $
-      nothing ! $ move ! (1 ∷ 0 ∷ []) $ join ! $ nothing ! $ owned ! usize (Is usize) (uint-makes 𝓤 H A W w64) high _ (refl, gh) $ fjoin ! $ owned ! usize (Is usize) (uint-makes 𝓤 H A W w64) low _ (refl, gl) $ fjoin ! $
-      move ! (2 ∷ 0 ∷ []) $ fjoin ! $ move ! (1 ∷ 0 ∷ []) $ frame ! $ frame ! $ owned ! G.the-row (Is G.the-row) (EL.makes G.the-type G′.the-plain 𝓤 H A) found _ is $ done !
+      suffices ! _ (ends-at 𝓤 H A transfer.ended stayed (transfer.clauses 𝓤 H A mem run) W (((κ, tt), (q, tt), tt, (d, (low, (high, tt))), at), tt) (ans found) found (tt, (tt, (tt, tt))) (tt, (tt, (tt, tt)))) $
+      says-both ! (answered (curveOf ys) low high n (after n) found refl refl refl) $
+      nothing ! $ move ! (1 ∷ 0 ∷ []) $ join ! $ nothing ! $ owned ! usize (Is usize) (uint-makes 𝓤 H A W w64) high _ (refl, gh) $ fjoin ! $
+      owned ! usize (Is usize) (uint-makes 𝓤 H A W w64) low _ (refl, gl) $ fjoin ! $
+      move ! (2 ∷ 0 ∷ []) $ fjoin ! $ move ! (1 ∷ 0 ∷ []) $ frame ! $ frame ! $
+      owned ! G.the-row (Is G.the-row) (EL.makes G.the-type G′.the-plain 𝓤 H A) found _ is $ done !
 
   module _ (𝓣 : Tables 𝓤 H) (fm : FmC 𝓤 H (W .laws) (𝓣 .C)) (known-few : Triple 𝓤 (𝓣 .C #gain·walked) (Few 𝓤 H A W mem run)) (known-start : Triple 𝓤 (𝓣 .C #gain·nothing-yet) (Start 𝓤 H A W mem run)) (known-point : Triple 𝓤 (𝓣 .C #gain·with-point) (WithPoint 𝓤 H A W mem run)) (known-finish : Triple 𝓤 (𝓣 .C #gain·finish) (Finish 𝓤 H A W mem run))
       (longest : Room T.the-row (length ys)) (gl : low < 2 ^ 64) (gh : high < 2 ^ 64) where
@@ -302,9 +305,12 @@ module _ {M : Type 1} (𝓤 : URA M) (H : Heap 𝓤) (A : Atoms 𝓤) (W : Given
           (and-then ! (load ! (from ! (stop !)) (look ! 16 refl)) (and-then ! (load ! (from ! (stop !)) (look ! 12 refl))
           (and-then ! (load ! (from ! (stop !)) (look ! 22 refl)) (and-then ! (load ! (from ! (stop !)) (look ! 20 refl)) (no-more !))))) (λ isa.
           land ! (from ! (stop !)) (init ! 25 refl (EL.lawful G.the-type G′.the-laws 𝓤 H A W tt .typed found _ isa .0)) $
-          returns ! (look ! 25 refl) $ forget ! 9 refl $ forget ! 11 refl $ forget ! 13 refl $ forget ! 15 refl $ forget ! 17 refl $ forget ! 19 refl $ forget ! 21 refl $ forget ! 23 refl $ forget ! 25 refl $
-          move ! (25 ∷ 26 ∷ []) $ free1 ! $ move ! (23 ∷ 24 ∷ []) $ free1 ! $ move ! (21 ∷ 22 ∷ []) $ free1 ! $ move ! (19 ∷ 20 ∷ []) $ free1 ! $ move ! (17 ∷ 18 ∷ []) $ free1 ! $ move ! (15 ∷ 16 ∷ []) $ free1 ! $
-          move ! (13 ∷ 14 ∷ []) $ free1 ! $ move ! (11 ∷ 12 ∷ []) $ free1 ! $ move ! (9 ∷ 10 ∷ []) $ free1 ! $ move ! (7 ∷ 8 ∷ []) $ free1 ! $ move ! (5 ∷ 6 ∷ []) $ free1 ! $ move ! (3 ∷ 4 ∷ []) $ free1 ! $ free0 ! $
+          returns ! (look ! 25 refl) $ forget ! 9 refl $ forget ! 11 refl $ forget ! 13 refl $ forget ! 15 refl $ forget ! 17 refl $ forget ! 19 refl $
+          forget ! 21 refl $ forget ! 23 refl $ forget ! 25 refl $
+          move ! (25 ∷ 26 ∷ []) $ free1 ! $ move ! (23 ∷ 24 ∷ []) $ free1 ! $ move ! (21 ∷ 22 ∷ []) $ free1 ! $ move ! (19 ∷ 20 ∷ []) $ free1 ! $
+          move ! (17 ∷ 18 ∷ []) $ free1 ! $ move ! (15 ∷ 16 ∷ []) $ free1 ! $
+          move ! (13 ∷ 14 ∷ []) $ free1 ! $ move ! (11 ∷ 12 ∷ []) $ free1 ! $ move ! (9 ∷ 10 ∷ []) $ free1 ! $ move ! (7 ∷ 8 ∷ []) $ free1 ! $ move ! (5 ∷ 6 ∷ []) $
+          free1 ! $ move ! (3 ∷ 4 ∷ []) $ free1 ! $ free0 ! $
           keep ! (1 ∷ 2 ∷ []) $ by ! (exits gl gh isa))
 
       turn : (i : ℕ) → Sq W (Inv i) (runs C Λ E mir.turn-1 (Then i))
@@ -323,8 +329,10 @@ module _ {M : Type 1} (𝓤 : URA M) (H : Heap 𝓤) (A : Atoms 𝓤) (W : Given
     unfolding fitTo
     walk =
         qed W ((‵ (flft κ q) ⊛ ‵ ftrue) ∷ ‵ (owns (ShrSlice (named 0) κ T.the-row ∷ usize ∷ usize ∷ []) (d, (low, (high, tt))) at) ∷ []) ∵ enter ! C Λ code.function (sliceVal (b, o) (length ys) ∷ vint w64 low ∷ vint w64 high ∷ []) _ $
-        alloc1 ! (λ l₀. alloc1 ! (λ l₁. alloc1 ! (λ l₂. alloc1 ! (λ l₃. alloc1 ! (λ l₄. alloc1 ! (λ l₅. alloc1 ! (λ l₆. alloc1 ! (λ l₇. alloc1 ! (λ l₈. alloc1 ! (λ l₉. alloc1 ! (λ l₁₀. alloc1 ! (λ l₁₁. alloc0 ! $ params1 ! $
-        pass1 ! (init ! 20 refl (tt, (tt, (record { fits = longest .0 }, tt)))) $ pass1 ! (init ! 18 refl (tt, record { fits = gl })) $ pass1 ! (init ! 16 refl (tt, record { fits = gh })) $ pass0 ! $
+        alloc1 ! (λ l₀. alloc1 ! (λ l₁. alloc1 ! (λ l₂. alloc1 ! (λ l₃. alloc1 ! (λ l₄. alloc1 ! (λ l₅. alloc1 ! (λ l₆. alloc1 ! (λ l₇. alloc1 ! (λ l₈. alloc1 ! (λ l₉. alloc1 ! (λ l₁₀. alloc1 ! (λ l₁₁. alloc0 ! $
+        params1 ! $
+        pass1 ! (init ! 20 refl (tt, (tt, (record { fits = longest .0 }, tt)))) $ pass1 ! (init ! 18 refl (tt, record { fits = gl })) $
+        pass1 ! (init ! 16 refl (tt, record { fits = gh })) $ pass0 ! $
         assigns ! (of-opd ! (load ! (from ! (fld ! refl (stop !))) (look-in ! 20 (sub ! 1 refl (whole !))))) (from ! (stop !)) (init ! 8 refl (tt, record { fits = longest .0 })) $
         calls-plain ! fm (Few 𝓤 H A W mem run) known-few (to-few 𝓤 H A W mem run (length ys)) (vint w64 n) (asks-few 𝓤 H A W mem run (length ys) (longest .0)) (tells-few 𝓤 H A W mem run (length ys))
         (and-then ! (load ! (from ! (stop !)) (look ! 9 refl)) (no-more !)) (λ isn.
