@@ -511,7 +511,8 @@ typedef struct {
  *
  * Nothing overflows here, and such a point is within limits whatever the frames: 16 * 4095 is 65520, and
  * 16 * 4095 * 4095 / 2 is below 2^28. The black level need not be taken off: one number taken off all chosen means, or
- * added to them, within limits, changes neither numerator nor denominator.
+ * added to them, within limits, changes neither numerator nor denominator. It must be the same number for each: where a
+ * mean is cut off at 0, the slope is another.
  *
  * Refusals, in the order tested: 3 (the list is empty or has more than 64 points, a mean above 65520 or a variance
  * above 2^28 anywhere in it, chosen or not, last not below points_len, or first above last); 7 (fewer than two points

@@ -43,7 +43,7 @@ pub struct PhotonTransfer {
 /// mean. Of the m points from `first` to `last`, both included, x is the mean and y the variance; Sx, Sy, Sxx and Sxy
 /// are the sums of x, y, x * x and x * y over them. The gain is `m * Sxy - Sx * Sy` over `m * Sxx - Sx * Sx`; the
 /// sixteenths cancel out. One number taken off all chosen means, or added to them, within limits, changes neither, so
-/// no black level is asked.
+/// no black level is asked. It must be the same number for each: where a mean is cut off at 0, the slope is another.
 ///
 /// - `points`: 1 to 64 points in any order; those that are not chosen count for the saturation and for 3
 /// - `first`, `last`: places in the list, from 0, `first` below `last`

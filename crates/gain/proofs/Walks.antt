@@ -1,6 +1,6 @@
 -- What the walk keeps after i points is what the definition says of them, and so what is made of it at the end is the answer.
 use Prim.Native.Nat.{ℕ, zero, suc, _+_, _-_, _*_, _^_, _≤_, _<_}
-use mathlib.Core.Bool.{Bool, true, false, cond, _||_}
+use mathlib.Core.Bool.{Bool, true, false, cond, _||_, or-true, or-false}
 use mathlib.Core.Logic.{⊎-elim}
 use mathlib.Core.Path.{_≡_, refl, sym, ap, ap₂, _∙_, subst}
 use native.Mathlib.Nat.{add-zero, le-refl, pos-of-ne-zero}
@@ -95,12 +95,17 @@ pub limits : (x y : ℕ) → outOfLimits x y ≡ false → (x ≤ 65520) × (y �
 unfolding outOfLimits
 limits x y e = let both = neither (ltb 65520 x) (ltb (2 ^ 28) y) e in (ltb-false 65520 x (both .0), ltb-false 268435456 y (both .1))
 
-pub room-most : {i : ℕ} {t : Sums} → Room i t → Room 64 t
-room-most {i} {t} r = record { few = le-refl 64; of-x = omega (arith, r .few, r .of-x); of-y = omega (arith, r .few, r .of-y); of-xy = omega (arith, r .few, r .of-xy); of-xx = omega (arith, r .few, r .of-xx) }
+-- for more points there is more
+pub room-grows : (i j : ℕ) (t : Sums) → i ≤ j → j ≤ 64 → Room i t → Room j t
+room-grows i j t l h r = record {
+  few = h;
+  of-x = omega (arith, r .of-x);
+  of-y = omega (arith, r .of-y);
+  of-xy = omega (arith, r .of-xy);
+  of-xx = omega (arith, r .of-xx);
+}
 
-room-later : (i : ℕ) (t : Sums) → i < 64 → Room i t → Room (suc i) t
-room-later i t l r = record { few = l; of-x = omega (arith, r .of-x); of-y = omega (arith, r .of-y); of-xy = omega (arith, r .of-xy); of-xx = omega (arith, r .of-xx) }
-
+-- one more takes at most what is there for it
 room-more : (i x y : ℕ) (t : Sums) (on : Bool) → i < 64 → x ≤ 65520 → y ≤ 268435456 → Room i t → Room (suc i) (summed t x y on)
 room-more i x y t true l p q r = record {
   few = l;
@@ -109,7 +114,7 @@ room-more i x y t true l p q r = record {
   of-xy = omega (arith, r .of-xy, times-le x y 65520 268435456 p q);
   of-xx = omega (arith, r .of-xx, times-le x x 65520 65520 p p);
 }
-room-more i x y t false l p q r = room-later i t l r
+room-more i x y t false l p q r = room-grows i (suc i) t (omega arith) l r
 
 -- after i points
 unfoldable pub fitTo : Curve → ℕ → ℕ → ℕ → Fit
@@ -130,7 +135,7 @@ module _ (c : Curve) (first last : ℕ) where
     where
       by : (b : Bool) → (b ≡ false → (c .mean i ≤ 65520) × (c .variance i ≤ 268435456)) → Room i (at i .sums)
           → Room (suc i) (cond b (noted (at i)) (taken (at i) (c .mean i) (c .variance i) i (isChosen first last i)) .sums)
-      by true f r = room-later i (at i .sums) h r
+      by true f r = room-grows i (suc i) (at i .sums) (omega arith) h r
       by false f r = room-more i (c .mean i) (c .variance i) (at i .sums) (isChosen first last i) h (f refl .0) (f refl .1) r
 
   -- ---- a point out of limits is noted
@@ -142,17 +147,9 @@ module _ (c : Curve) (first last : ℕ) where
       by : (b : Bool) → at i .beyond ≡ someTo i out
           → cond b (noted (at i)) (taken (at i) (c .mean i) (c .variance i) i (isChosen first last i)) .beyond ≡ (someTo i out || b)
       by true e = sym (or-true (someTo i out))
-        where
-          or-true : (a : Bool) → (a || true) ≡ true
-          or-true true = refl
-          or-true false = refl
       by false e = e ∙ sym (or-false (someTo i out))
-        where
-          or-false : (a : Bool) → (a || false) ≡ a
-          or-false true = refl
-          or-false false = refl
 
-  -- ---- where none of n points is
+  -- ---- sums over the chosen of the first i points
   abbrev pick : (ℕ → ℕ) → ℕ → ℕ
   pick f k = cond (isChosen first last k) (f k) 0
 
@@ -177,6 +174,7 @@ module _ (c : Curve) (first last : ℕ) where
       by true = refl
       by false = simp add-zero
 
+  -- what is kept where none of n points is out of limits
   module _ (n : ℕ) (fine : (i : ℕ) → i < n → out i ≡ false) where
     sums-are : (i : ℕ) → i ≤ n → at i .sums ≡ picked i
     unfolding fitTo withPoint sumTo

@@ -6,7 +6,7 @@ use mathlib.Core.Bool.{Bool}
 use mathlib.Core.Logic.{_⊎_, ⊎-elim}
 use mathlib.Core.WellFounded.{WellFounded, InvImage·wf}
 use Prim.Native.Nat.{ℕ, suc, _-_, _<_, _≤_, _^_}
-use native.Mathlib.Nat.{eq-or-lt-of-le}
+use native.Mathlib.Nat.{le-refl, eq-or-lt-of-le}
 use native.Mathlib.Numerals.{add-one}
 use native.Mathlib.Omega.{arith}
 use mathlib.Core.List.{List, [], _∷_}
@@ -57,7 +57,7 @@ use Rattle.gain.specs.declared.Point.{Point}
 use Rattle.gain.specs.declared.Fit.{Fit}
 use Rattle.gain.specs.declared.Transfer.{Transfer}
 use Rattle.gain.proofs.Calls.{told, calls-plain, says-both}
-use Rattle.gain.proofs.Walks.{fitTo, walked-few, walked-inside, room, room-most, answered}
+use Rattle.gain.proofs.Walks.{fitTo, walked-few, walked-inside, room, room-grows, answered}
 use Rattle.gain.proofs.Point as T
 use Rattle.gain.proofs.Point.Laws as T′
 use Rattle.gain.proofs.Fit as S
@@ -300,7 +300,7 @@ module _ {M : Type 1} (𝓤 : URA M) (H : Heap 𝓤) (A : Atoms 𝓤) (W : Given
           leaves-loop ! (load ! (from ! (stop !)) (look ! 9 refl)) $ exec ! C Λ E mir.t-6 (atRet E Post) $
           assigns ! (of-opd ! (load ! (from ! (fld ! refl (stop !))) (look-in ! 23 (sub ! 1 refl (whole !))))) (from ! (stop !)) (store ! 11 refl (tt, record { fits = longest .0 })) $
           calls-plain ! fm (Finish 𝓤 H A W mem run) known-finish (to-finish 𝓤 H A W mem run (after n) (length ys) low high) (ans found)
-          (asks-finish 𝓤 H A W mem run (after n) (length ys) low high is (longest .0) gl gh (room-most (room (curveOf ys) low high n (walked-few (length ys)))))
+          (asks-finish 𝓤 H A W mem run (after n) (length ys) low high is (longest .0) gl gh (room-grows n 64 (after n .sums) (walked-few (length ys)) (le-refl 64) (room (curveOf ys) low high n (walked-few (length ys)))))
           (tells-finish 𝓤 H A W mem run (after n) (length ys) low high)
           (and-then ! (load ! (from ! (stop !)) (look ! 16 refl)) (and-then ! (load ! (from ! (stop !)) (look ! 12 refl))
           (and-then ! (load ! (from ! (stop !)) (look ! 22 refl)) (and-then ! (load ! (from ! (stop !)) (look ! 20 refl)) (no-more !))))) (λ isa.

@@ -1,6 +1,7 @@
 -- `transfer_of_rows` is right because each turn adds the point that the next row holds, and what is finished after the last is the answer.
 use Prim.Native.Nat.{_-_, _≤_}
 use mathlib.Core.Path.{_≡_, sym, ap₂, _∙_, subst}
+use native.Mathlib.Nat.{le-refl}
 use native.Mathlib.Omega.{arith}
 use lib.ListN.{length}
 use borrow.Author.Needs.{needs}
@@ -8,7 +9,7 @@ use Rattle.gain.specs.Gain.{curveOfRows}
 use Rattle.gain.specs.Walk.{Room, withPoint}
 use Rattle.gain.specs.declared.Fit.{Fit}
 use Rattle.gain.specs.declared.Point.{Point}
-use Rattle.gain.proofs.Walks.{fitTo, walked-few, walked-inside, room, room-most, fit-more, answered}
+use Rattle.gain.proofs.Walks.{fitTo, walked-few, walked-inside, room, room-grows, fit-more, answered}
 use Rattle.gain.proofs.transfer_of_rows.Statement.{statement}
 use Rattle.gain.proofs.transfer_of_rows.Tie as tie
 
@@ -68,7 +69,7 @@ loop-again c =
     )
 
 finish-requires : tie.Need-finish-requires Inv-loop μ-loop
-finish-requires c κs = room-most (roomy (c .before))
+finish-requires c κs = room-grows _ 64 _ (few (c .before)) (le-refl 64) (roomy (c .before))
 
 returns : tie.Need-returns Inv-loop μ-loop
 returns c =
