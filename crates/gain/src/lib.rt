@@ -1,7 +1,7 @@
 // The gain of a camera by photon transfer: document 02, e.
 ghost use mathlib.Core.Path.{_≡_};
 ghost use mathlib.Core.Bool.{_||_};
-ghost use Prim.Native.Nat.{_≤_, _<_, _^_, _+_, _-_};
+ghost use Prim.Native.Nat.{_≤_, _<_, _^_};
 ghost use lib.Dec.{eqb, ltb, leb};
 ghost use lib.IntN.{natAbs};
 ghost use Rattle.exact.specs.Quotient.{signedQuotient};
@@ -58,13 +58,25 @@ struct Parts {
     denominator: u64,
 }
 
+// A list has at most so many points.
+const MOST_POINTS: usize = 64;
+
+// Sixteenths of the greatest grey level, 4,095.
+const MOST_MEAN: u64 = 65520;
+
+// 2 ^ 28 sixteenths.
+const MOST_VARIANCE: u64 = 0x1000_0000;
+
+// 2 ^ 53: numbers below it have an exact float.
+const LARGE: u64 = 0x20_0000_0000_0000;
+
 fn out_of_limits(p: Point) -> bool
     ensures { λ r. ⌜ r ≡ outOfLimits (p .mean) (p .variance) ⌝ }
 {
-    if 65520 < p.mean {
+    if MOST_MEAN < p.mean {
         return true;
     }
-    268435456 < p.variance
+    MOST_VARIANCE < p.variance
 }
 
 fn is_chosen(first: usize, last: usize, i: usize) -> bool
@@ -129,7 +141,7 @@ fn with_point(s: Fit, p: Point, i: usize, first: usize, last: usize) -> Fit
 fn walked(count: usize) -> usize
     ensures { λ r. ⌜ r ≡ walkedOf count ⌝ }
 {
-    if 64 < count { 0 } else { count }
+    if MOST_POINTS < count { 0 } else { count }
 }
 
 // Before the first point.
@@ -155,7 +167,7 @@ fn bad_list(count: usize, beyond: bool) -> bool
     if count == 0 {
         return true;
     }
-    if 64 < count {
+    if MOST_POINTS < count {
         return true;
     }
     beyond
@@ -192,10 +204,10 @@ fn parts_of(m: u64, t: Sums) -> Parts
 fn too_large(p: Parts) -> bool
     ensures { λ r. ⌜ r ≡ (leb (2 ^ 53) (p .size) || leb (2 ^ 53) (p .denominator)) ⌝ }
 {
-    if 9007199254740992 <= p.size {
+    if LARGE <= p.size {
         return true;
     }
-    9007199254740992 <= p.denominator
+    LARGE <= p.denominator
 }
 
 // 7, 13 and 14: the denominator is 0 just where all means are equal.
