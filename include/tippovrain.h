@@ -498,7 +498,7 @@ typedef struct {
  *   first, last   places in the list, from 0: first below last, last below points_len
  *   place         written: 0
  *   numerator     written: m * Sxy - Sx * Sy, below 2^53 in size; below 0 where the variance falls as the mean grows
- *   denominator   written: m * Sxx - Sx * Sx, above 0 and at most 17583597158400
+ *   denominator   written: m * Sxx - Sx * Sx, above 0 and at most 4395899289600
  *   slope         written: numerator / denominator, rounded once, so off by at most one part in 2^53: the gain. It has
  *                 the numerator's sign, and is 0, never -0, where the numerator is 0
  *   saturation    written: the first place, from 0, of the greatest variance in the whole list, chosen or not
@@ -512,7 +512,7 @@ typedef struct {
  * Nothing overflows here, and such a point is within limits whatever the frames: 16 * 4095 is 65520, and
  * 16 * 4095 * 4095 / 2 is below 2^28. The black level need not be taken off: one number taken off all chosen means, or
  * added to them, within limits, changes neither numerator nor denominator. It must be the same number for each: where a
- * mean is cut off at 0, the slope is another.
+ * mean is cut off at 0, the slope may be another.
  *
  * Refusals, in the order tested: 3 (the list is empty or has more than 64 points, a mean above 65520 or a variance
  * above 2^28 anywhere in it, chosen or not, last not below points_len, or first above last); 7 (fewer than two points

@@ -71,7 +71,8 @@ fn sixteenths(numerator: u64, denominator: u64) -> u64 {
     (32 * numerator + denominator) / (2 * denominator)
 }
 
-/// A camera with a gain of half a grey level per electron, a black level of 64, and no noise but that of the light.
+/// A camera with a gain of half a grey level per electron, a black level of 64, and no noise but that of the light and of
+/// rounding.
 struct Camera {
     state: u64,
 }

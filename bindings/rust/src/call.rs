@@ -37,7 +37,8 @@ pub enum Call {
 }
 
 impl Call {
-    /// The numbers that the call can refuse with, in the order tested.
+    /// The numbers that the call can refuse with, in the order tested; of a job, whose fields are judged one by one,
+    /// in the order of its list of errors.
     pub fn numbers(self) -> &'static [u64] {
         match self {
             UnpackRaw10 => &[1, 4],
@@ -70,11 +71,24 @@ impl Call {
 
     /// What the place of a number counts in the call; nothing where it is always 0.
     pub(crate) fn place_counts(self, number: u64) -> Option<&'static str> {
-        match (self, number) {
-            (Job, 20..=23) => Some("byte"),
-            (_, 5 | 6) => Some("site"),
-            _ => None,
+        if !self.numbers().contains(&number) {
+            return None;
         }
+        match self {
+            UnpackRaw10 | PhotonTransfer => None,
+            Job if (20..=23).contains(&number) => Some("byte"),
+            PairFigures | DarkLevel | StackAdd | StackVariance | PatternVertical
+            | PatternHorizontal | FindDefects | Repair | DefectiveRows | DefectiveColumns
+            | ColourRatios | Job => matches!(number, 5 | 6).then_some("site"),
+        }
+    }
+
+    /// What over counts where the call refuses with a number, one of it and more; nothing where it is always 0.
+    pub(crate) fn over_counts(self, number: u64) -> Option<[&'static str; 2]> {
+        (number == 6 && self.numbers().contains(&6)).then_some([
+            "sample above full scale, counted at all surveyed sites",
+            "samples above full scale, counted at all surveyed sites",
+        ])
     }
 }
 

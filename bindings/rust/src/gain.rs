@@ -22,7 +22,7 @@ pub struct Point {
 /// A gain, in grey levels per electron.
 #[derive(Debug, Clone, Copy, PartialEq)]
 pub struct Gain {
-    /// The gain itself: the numerator is below 2^53 in size, the denominator at most 17583597158400.
+    /// The gain itself: the numerator is below 2^53 in size, the denominator at most 4395899289600.
     pub exact: SignedFraction,
     /// Numerator over denominator, rounded once: off by at most one part in 2^53, and 0, never -0, where the numerator
     /// is 0.
@@ -43,7 +43,8 @@ pub struct PhotonTransfer {
 /// mean. Of the m points from `first` to `last`, both included, x is the mean and y the variance; Sx, Sy, Sxx and Sxy
 /// are the sums of x, y, x * x and x * y over them. The gain is `m * Sxy - Sx * Sy` over `m * Sxx - Sx * Sx`; the
 /// sixteenths cancel out. One number taken off all chosen means, or added to them, within limits, changes neither, so
-/// no black level is asked. It must be the same number for each: where a mean is cut off at 0, the slope is another.
+/// no black level is asked. It must be the same number for each: where a mean is cut off at 0, the slope
+/// may be another.
 ///
 /// - `points`: 1 to 64 points in any order; those that are not chosen count for the saturation and for 3
 /// - `first`, `last`: places in the list, from 0, `first` below `last`

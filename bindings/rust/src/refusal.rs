@@ -83,12 +83,11 @@ impl fmt::Display for Refusal {
         if let Some(counted) = self.call.place_counts(self.number) {
             write!(f, " at {counted} {}", self.place)?;
         }
-        match (self.number, self.over) {
-            (6, 1) => write!(f, ": 1 sample above full scale")?,
-            (6, over) => write!(f, ": {over} samples above full scale")?,
-            _ => return write!(f, ": {}", self.meaning()),
+        match (self.call.over_counts(self.number), self.over) {
+            (Some([one, _]), 1) => write!(f, ": 1 {one}"),
+            (Some([_, more]), over) => write!(f, ": {over} {more}"),
+            (None, _) => write!(f, ": {}", self.meaning()),
         }
-        write!(f, ", counted at all surveyed sites")
     }
 }
 

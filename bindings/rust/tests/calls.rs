@@ -611,10 +611,11 @@ fn told(call: Call, number: u64, over: u64) -> Refusal {
     }
 }
 
+const HEADER: &str = include_str!("../../../include/tippovrain.h");
+
 /// The header's text on a C function: the comment before its declaration.
 fn header_on(function: &str) -> &'static str {
-    let header = include_str!("../../../include/tippovrain.h");
-    let before = &header[..header.find(&format!("uint64_t {function}(")).unwrap()];
+    let before = &HEADER[..HEADER.find(&format!("uint64_t {function}(")).unwrap()];
     &before[before.rfind("/*").unwrap()..]
 }
 
@@ -655,6 +656,11 @@ fn numbers_are_the_headers() {
     ] {
         assert_eq!(header_numbers(function), call.numbers(), "{function}");
     }
+}
+
+#[test]
+fn each_function_is_a_call() {
+    assert_eq!(HEADER.matches("\nuint64_t tip_").count(), CALLS.len());
 }
 
 /// A call has words of its own for each number that it gives, and one phrase for every other.

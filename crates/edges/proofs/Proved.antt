@@ -25,7 +25,7 @@ use Rattle.sites.specs.Find.{usedThreshold, far, foundAt, markedAt, foundCount,
 use Rattle.lines.specs.Lines.{before, after, pooled, defective, markOf, markAt}
 use Rattle.lines.specs.Marks.{linesVerdict, linesAnswer, linesBuffer}
 use Rattle.gain.specs.Slope.{jointSpread, allEqual}
-use Rattle.gain.specs.Gain.{outOfLimits, badList, badEnds, tooLarge, transferVerdict, transferAnswer}
+use Rattle.gain.specs.Gain.{outOfLimits, badLength, badList, badEnds, tooLarge, transferVerdict, transferAnswer}
 use Rattle.edges.specs.Table.{Edges, Beside, Transfers}
 
 pub edges : Edges
@@ -62,7 +62,7 @@ beside = record {
 }
 
 pub transfers : Transfers
-unfolding size odd units round ofBits firstTo greatestTo greatestIn firstGreatest _⊖_ sumTo _⨟_ refuseWith jointSpread allEqual outOfLimits badList badEnds tooLarge transferVerdict transferAnswer
+unfolding size odd units round ofBits firstTo greatestTo greatestIn firstGreatest _⊖_ sumTo _⨟_ refuseWith jointSpread allEqual outOfLimits badLength badList badEnds tooLarge transferVerdict transferAnswer
 transfers = record {
   straight = refl;
   outside-the-chosen = refl;
@@ -71,7 +71,10 @@ transfers = record {
   exchanged = refl;
   past-the-list = refl;
   empty = refl;
-  over-limit = refl;
+  as-many = refl;
+  too-many = refl;
+  over-mean = refl;
+  over-variance = refl;
   at-limit = refl;
   one-point = refl;
   equal-means = refl;

@@ -1,5 +1,5 @@
 -- Document 01, "Both sides of each edge": the worked examples K1 to K10 as one table of equations, and beside them what they leave open and what document 02 adds.
-use Prim.Native.Nat.{ℕ, _/_, _%_, _^_}
+use Prim.Native.Nat.{ℕ, _+_, _/_, _%_, _^_}
 use mathlib.Core.Bool.{true, false, cond, _&&_}
 use mathlib.Core.List.{List, [], _∷_, _++_}
 use mathlib.Core.Path.{_≡_}
@@ -161,8 +161,12 @@ pub record Transfers : Type 0 where
   pub exchanged : Transferred doubling 2 0 (gain.Refused (refusal 3 0))
   pub past-the-list : Transferred doubling 0 4 (gain.Refused (refusal 3 0))
   pub empty : Transferred [] 0 0 (gain.Refused (refusal 3 0))
+  -- 64 points may be, 65 may not
+  pub as-many : Transferred (replicate 64 (point 1 10 20)) 0 63 (gain.Refused (refusal 13 0))
+  pub too-many : Transferred (replicate 65 (point 1 10 20)) 0 63 (gain.Refused (refusal 3 0))
   -- a point out of limits that is not chosen comes before 7; at its limits a point is legal
-  pub over-limit : Transferred (point 1 65521 0 ∷ point 2 20 40 ∷ []) 1 1 (gain.Refused (refusal 3 0))
+  pub over-mean : Transferred (point 1 65521 0 ∷ point 2 20 40 ∷ []) 1 1 (gain.Refused (refusal 3 0))
+  pub over-variance : Transferred (point 1 0 (2 ^ 28 + 1) ∷ point 2 20 40 ∷ []) 1 1 (gain.Refused (refusal 3 0))
   pub at-limit : Transferred (point 1 65520 (2 ^ 28) ∷ point 2 20 40 ∷ []) 1 1 (gain.Refused (refusal 7 0))
   -- one point, whose mean is then the only one: 7 comes before 13
   pub one-point : Transferred doubling 1 1 (gain.Refused (refusal 7 0))

@@ -1,4 +1,4 @@
--- The laws of `quotient`, for numbers up to 2 ^ 53: nothing is then too small for all 53 digits, and nothing overflows.
+-- The laws of `quotient` and `signedQuotient`, for numbers up to 2 ^ 53: nothing is then too small for all 53 digits, and nothing overflows.
 use Prim.Native.Nat.{ℕ, zero, suc, _+_, _*_, _/_, _^_, _≤_, _<_}
 use mathlib.Core.Bool.{Bool, true, false, not, cond, true≢false}
 use mathlib.Core.Logic.{⊎-elim}

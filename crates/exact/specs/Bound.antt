@@ -1,5 +1,5 @@
 -- Document 01, "What the promises have to settle": how far a float may be from an exact figure. Document 02, h: when a whole number has an exact float;
--- and m: when one float is at most another, and that one pattern of bits is read as it.
+-- m: when one float is at most another, and that one pattern of bits is read as it; and e: a float that may be negative.
 -- A float x is its whole significand times a power of two; num x / den x is its size as a fraction (0 / 1 where x is no such number).
 use Prim.Native.Nat.{ℕ, _+_, _-_, _*_, _^_, _≤_, _<_}
 use mathlib.Core.Bool.{Bool, false, not, cond}

@@ -1,4 +1,4 @@
--- Document 01, "one rounded f64 division" of whole numbers.
+-- Document 01, "one rounded f64 division" of whole numbers, and document 02, e: of a signed one too.
 use Prim.Native.Nat.{ℕ, _^_}
 use mathlib.Core.Bool.{Bool, false, cond, _&&_}
 use lib.Dec.{leb, ltb}

@@ -36,7 +36,7 @@ pub fn root_of(x: u64) -> u64
 }
 
 // 2 ^ 53: every whole number up to it becomes an f64 without loss.
-const LOSSLESS: u64 = 0x20_0000_0000_0000;
+pub const LOSSLESS: u64 = 0x20_0000_0000_0000;
 
 // p / q, rounded once; 0.0 where q is 0, or where p or q would lose bits as an f64.
 pub fn ratio(p: u64, q: u64) -> f64

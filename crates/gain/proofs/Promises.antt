@@ -1,6 +1,6 @@
 -- What is promised of `photon_transfer`, for any list of points and any two ends.
 use Prim.Native.Nat.{ℕ, zero, suc, _+_, _-_, _*_, _^_, _≤_, _<_}
-use mathlib.Core.Bool.{Bool, true, false, or-false}
+use mathlib.Core.Bool.{false, or-false}
 use mathlib.Core.List.{List, [], _∷_, map}
 use mathlib.Core.Logic.{⊎-elim}
 use mathlib.Core.Path.{_≡_, refl, sym, ap, _∙_}
@@ -20,11 +20,11 @@ use Rattle.laws.proofs.Sole.{Sole, sole}
 use Rattle.exact.specs.Bound.{withoutSign, CloseTo}
 use Rattle.exact.specs.Quotient.{signedQuotient}
 use Rattle.exact.proofs.Quotients.{quotient-close, without-sign, signed-plain, quotient-zero, zero-bits}
-use Rattle.verdict.specs.Verdict.{_⨟_, refuseWith, refuseIf, placeOf}
+use Rattle.verdict.specs.Verdict.{refuseIf}
 use Rattle.verdict.specs.Answer.{answerOf}
 use Rattle.verdict.specs.declared.Verdict.{Verdict}
 use Rattle.verdict.specs.declared.Verdict.the-variants as verdict
-use Rattle.verdict.proofs.Verdicts.{Test, Tabled, Passed, past, end, Refuses, test, tabled, refuses, then-same, unless, clear-then, clear-unless}
+use Rattle.verdict.proofs.Verdicts.{Test, Tabled, Passed, past, end, Refuses, test, tabled, refuses, never-placed, then-same, unless, clear-then, clear-unless}
 use Rattle.verdict.proofs.Answers.{was-accepted}
 use Rattle.gain.specs.Slope.{jointSpread, allEqual}
 use Rattle.gain.specs.Gain.{Curve, noPoint, curveOf, curveOfRows, outOfLimits, badList, badEnds, chosen, numerator, denominator, tooLarge, transferVerdict, gainOf, noGain, transferAnswer, paperOf, transferPaper}
@@ -34,17 +34,6 @@ use Rattle.gain.specs.declared.Transfer.{Transfer}
 use Rattle.gain.specs.declared.Transfer.the-variants.{Measured, Refused}
 use Rattle.gain.proofs.Slopes as slopes
 use Rattle.gain.proofs.Walks.{Legal, legal, limits, paper-of}
-
--- tests of place 0 in turn give no other place
-alone : (k : ℕ) (b : Bool) → placeOf (refuseIf k 0 b) ≡ 0
-unfolding refuseWith
-alone k true = refl
-alone k false = refl
-
-before : (k : ℕ) (b : Bool) (v : Verdict) → placeOf v ≡ 0 → placeOf (refuseIf k 0 b ⨟ v) ≡ 0
-unfolding refuseWith _⨟_
-before k true v e = refl
-before k false v e = e
 
 -- what holds from first to last holds of each chosen point
 to-chosen : (first last : ℕ) (P : ℕ → Type 0) → ((i : ℕ) → first ≤ i → i ≤ last → P i) → (k : ℕ) → k < last + 1 - first → P (first + k)
@@ -70,7 +59,7 @@ module _ (c : Curve) (first last : ℕ) where
       ∷ test 3 0 (badEnds (c .count) first last)
       ∷ test 7 0 (ltb (picked .count) 2)
       ∷ test 13 0 (allEqual (picked .count) (picked .mean))
-      ∷ test 14 0 (tooLarge picked)
+      ∷ test 14 0 (tooLarge (numerator picked) (denominator picked))
       ∷ []
 
   -- given: 3, 7, 13 and 14 exactly as tabled, in that order
@@ -93,8 +82,8 @@ module _ (c : Curve) (first last : ℕ) where
 
   -- no refusal has a place: it is always 0
   pub no-place : transferPaper c first last .place ≡ 0
-  unfolding transferPaper transferVerdict
-  no-place = before 3 _ _ (before 3 _ _ (before 7 _ _ (before 13 _ _ (alone 14 _))))
+  unfolding transferPaper
+  no-place = never-placed (transferVerdict c first last) given refl
 
   -- flat: the denominator is 0 exactly where the chosen means are all equal, which is what 13 refuses
   pub flat : (denominator picked ≡ 0 → OneMean c first last) × (OneMean c first last → denominator picked ≡ 0)
@@ -117,24 +106,23 @@ module _ (c : Curve) (first last : ℕ) where
     within = legal c first last (clear-then (clear-unless _ list) (clear-unless _ ends))
 
     point : (k : ℕ) → k < picked .count → (picked .mean k ≤ 65520) × (picked .variance k ≤ 268435456)
-    point k l = limits (picked .mean k) (picked .variance k) (within .fine (first + k) (omega (arith, within .inside)))
+    point k l = limits (picked .mean k) (picked .variance k) (within .fine (first + k) (omega (arith, within .ends .inside)))
 
-    -- in-limits: the denominator is at most 17,583,597,158,400, so below 2^53; the numerator at most 72,040,001,851,883,520 in size, so below 2^63
-    pub in-limits : (denominator picked ≤ 17583597158400) × (denominator picked < 2 ^ 53)
+    -- in-limits: the denominator is at most 4,395,899,289,600, so below 2^53; the numerator at most 72,040,001,851,883,520 in size, so below 2^63
+    pub in-limits : (denominator picked ≤ 4395899289600) × (denominator picked < 2 ^ 53)
         × (natAbs (numerator picked) ≤ 72040001851883520) × (natAbs (numerator picked) < 2 ^ 63)
     in-limits =
         let m = picked .count in
-        let few : m ≤ 64 = omega (arith, within .few, within .inside) in
-        let bottom : denominator picked ≤ 17583597158400 =
-        le-trans (slopes.spread-most m 65520 65520 (picked .mean) (picked .mean) (λ k l. point k l .0) (λ k l. point k l .0))
-        (times-le (m * 65520) (m * 65520) 4193280 4193280 (omega arith) (omega arith)) in
+        let few : m ≤ 64 = omega (arith, within .ends .few, within .ends .inside) in
+        let bottom : denominator picked ≤ 4395899289600 =
+        omega (arith, slopes.spread-quarter m (picked .mean) 65520 (λ k l. point k l .0), times-le (m * 65520) (m * 65520) 4193280 4193280 (omega arith) (omega arith)) in
         let top : natAbs (numerator picked) ≤ 72040001851883520 =
         le-trans (slopes.spread-most m 65520 268435456 (picked .mean) (picked .variance) (λ k l. point k l .0) (λ k l. point k l .1))
         (times-le (m * 65520) (m * 268435456) 4193280 17179869184 (omega arith) (omega arith)) in
         (bottom, omega arith, top, omega arith)
 
     -- spare: so only the numerator's size decides 14
-    pub spare : tooLarge picked ≡ leb (2 ^ 53) (natAbs (numerator picked))
+    pub spare : tooLarge (numerator picked) (denominator picked) ≡ leb (2 ^ 53) (natAbs (numerator picked))
     unfolding tooLarge
     spare = rw (lt-leb (2 ^ 53) (denominator picked) (in-limits .1)) (or-false _)
 
@@ -174,14 +162,14 @@ module _ (c : Curve) (first last : ℕ) (g : Gain) (answer : transferAnswer c fi
   pub counts : (2 ≤ last + 1 - first) × (last + 1 - first ≤ 64) × (last < c .count)
   counts =
       let w = within c first last (passed .list) (passed .ends) in
-      (passed .two, omega (arith, w .few, w .inside), w .inside)
+      (passed .two, omega (arith, w .ends .few, w .ends .inside), w .ends .inside)
 
   -- whole-numbers: numerator and denominator are those of the definition, unreduced, and the denominator is above 0
   pub whole-numbers : (g .numerator ≡ numerator (chosen c first last)) × (g .denominator ≡ denominator (chosen c first last)) × (0 < g .denominator)
   whole-numbers = rw (told .1) (refl, refl, passed .some)
 
-  -- in-range: the numerator is below 2^53 in size, and the denominator at most 17,583,597,158,400
-  pub in-range : (natAbs (g .numerator) < 2 ^ 53) × (g .denominator ≤ 17583597158400)
+  -- in-range: the numerator is below 2^53 in size, and the denominator at most 4,395,899,289,600
+  pub in-range : (natAbs (g .numerator) < 2 ^ 53) × (g .denominator ≤ 4395899289600)
   in-range = rw (told .1) (passed .small, in-limits c first last (passed .list) (passed .ends) .0)
 
   slope-is : g .slope ≡ signedQuotient (g .numerator) (g .denominator)
@@ -231,7 +219,7 @@ module _ (c d : Curve) (first last : ℕ) (both : BothInLimits c d) where
     same-verdict =
         rw (same-list, ap (λ (n : ℕ). badEnds n first last) (both .long))
         (then-same (refuseIf 3 0 (badList d)) (λ p. then-same (refuseIf 3 0 (badEnds (d .count) first last)) (λ q.
-        let same = parts (omega (arith, both .long, within d first last (unless _ _ p) (unless _ _ q) .inside)) in
+        let same = parts (omega (arith, both .long, within d first last (unless _ _ p) (unless _ _ q) .ends .inside)) in
         rw (
           ← slopes.zero-is-equal (last + 1 - first) (chosen c first last .mean),
           ← slopes.zero-is-equal (last + 1 - first) (chosen d first last .mean),
@@ -245,7 +233,7 @@ module _ (c d : Curve) (first last : ℕ) (both : BothInLimits c d) where
     unfolding transferAnswer
     same-answer tell same =
         rw (← same-verdict)
-        (by (transferVerdict c first last) (λ e. let a = accepted c first last e in same (within c first last (a .list) (a .ends) .inside)))
+        (by (transferVerdict c first last) (λ e. let a = accepted c first last e in same (within c first last (a .list) (a .ends) .ends .inside)))
       where
         by : (v : Verdict) → (v ≡ verdict.Clear → tell (Measured (gainOf c first last)) ≡ tell (Measured (gainOf d first last)))
             → tell (answerOf v (Measured (gainOf c first last)) Refused) ≡ tell (answerOf v (Measured (gainOf d first last)) Refused)

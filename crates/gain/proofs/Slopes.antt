@@ -3,7 +3,7 @@ use Prim.Native.Nat.{ℕ, _+_, _-_, _*_, _≤_, _<_}
 use mathlib.Core.Bool.{true, not}
 use mathlib.Core.Logic.{inl, ⊎-elim}
 use mathlib.Core.Path.{_≡_, refl, sym, ap, ap₂, _∙_}
-use native.Mathlib.Nat.{mul-one, mul-comm, mul-assoc, mul-left-comm, mul-add, add-mul, mul-le-mul-left}
+use native.Mathlib.Nat.{mul-one, mul-comm, mul-assoc, mul-left-comm, mul-add, add-mul, mul-le-mul-left, mul-le-mul-right}
 use native.Mathlib.Omega.{arith}
 use lib.Dec.{eqb}
 use lib.IntN.{pos, natAbs, _*ℤ_}
@@ -13,8 +13,8 @@ use Rattle.laws.specs.Sum.{sumTo}
 use Rattle.laws.proofs.Cases.{both-ways, not-both, true-or-false, times-le}
 use Rattle.laws.proofs.Firsts.{nowhere-first, first-nowhere}
 use Rattle.laws.proofs.Signeds.{⊖-eq, ⊖-ge, ⊖-cross, ⊖-self, ⊖-size, ⊖-times, ⊖-within}
-use Rattle.laws.proofs.Squares.{square, squares, Counted, excess, schwarz, none-equal, equal-none}
-use Rattle.laws.proofs.Sums.{Shifted, sum-ext, sum-le, sum-zero, sum-same, sum-times, sum-shift}
+use Rattle.laws.proofs.Squares.{square, squares, four-times, Counted, excess, schwarz, none-equal, equal-none}
+use Rattle.laws.proofs.Sums.{Shifted, shift-cross, sum-ext, sum-le, sum-scaled, sum-zero, sum-same, sum-times, sum-shift}
 use Rattle.gain.specs.Slope.{jointSpread, allEqual}
 
 -- every place counts
@@ -64,7 +64,20 @@ module _ (m : ℕ) (x : ℕ → ℕ) where
       let size : natAbs (a ⊖ b) ≡ a - b = omega (arith, ⊖-size a b, least) in
       ⊖-ge a b least ∙ ap pos (sym size)
 
-  -- and 0 exactly where all x are equal
+  -- four times it is at most (m × b)² where no x is above b, as it is where half of them are 0 and half b
+  pub spread-quarter : (b : ℕ) → ((k : ℕ) → k < m → x k ≤ b) → 4 * natAbs (jointSpread m x x) ≤ square (m * b)
+  unfolding jointSpread
+  spread-quarter b h =
+      let S = sumTo m x in
+      let Q = sumTo m (λ (k : ℕ). x k * x k) in
+      let size = ⊖-size (m * Q) (S * S) in
+      let most : S ≤ m * b = sum-le m b x h in
+      let rest : S + (m * b - S) ≡ m * b = omega arith in
+      let squares : m * Q ≤ m * (b * S) = mul-le-mul-left m (sum-scaled m b x (λ (k : ℕ). x k * x k) (λ k l. mul-le-mul-right (x k) (h k l))) in
+      let parted : m * (b * S) ≡ S * S + S * (m * b - S) = sym (mul-assoc m b S) ∙ mul-comm (m * b) S ∙ ap (λ (k : ℕ). S * k) (sym rest) ∙ mul-add S S (m * b - S) in
+      omega (arith, size, least, squares, parted, four-times S (m * b - S), ap square rest)
+
+  -- it is 0 exactly where all x are equal
   pub zero-equal : natAbs (jointSpread m x x) ≡ 0 → (i j : ℕ) → i < m → j < m → x i ≡ x j
   zero-equal e i j p q =
       omega (arith, ⊖-cross (x i) 0 (x j) 0 (none-equal ones zeros x counted m (excess-is ∙ e) i j p q refl refl))
@@ -117,25 +130,6 @@ unfolding jointSpread
 spread-swap m x y =
     rw (sum-ext m (λ (k : ℕ). x k * y k) (λ (k : ℕ). y k * x k) (λ k l. mul-comm (x k) (y k)), mul-comm (sumTo m x) (sumTo m y))
 
--- m × Σx′y − Σx′ × Σy, where Σx′ and Σx′y are Σx and Σxy, and up less down more for each place and each y
-shifted-sums : (m up down X Y XY X′ X′Y : ℕ) → Shifted up down m X X′ → Shifted up down Y XY X′Y → m * X′Y + X * Y ≡ m * XY + X′ * Y
-shifted-sums m up down X Y XY X′ X′Y p q =
-    let of-x : (X′ + down * m) * Y ≡ (X + up * m) * Y = ap (λ (t : ℕ). t * Y) p in
-    let of-xy : m * (X′Y + down * Y) ≡ m * (XY + up * Y) = ap (λ (t : ℕ). m * t) q in
-    let same-up : m * (up * Y) ≡ up * m * Y = mul-left-comm m up Y ∙ sym (mul-assoc up m Y) in
-    let same-down : m * (down * Y) ≡ down * m * Y = mul-left-comm m down Y ∙ sym (mul-assoc down m Y) in
-    omega (
-      arith,
-      of-x,
-      of-xy,
-      same-up,
-      same-down,
-      add-mul X′ (down * m) Y,
-      add-mul X (up * m) Y,
-      mul-add m X′Y (down * Y),
-      mul-add m XY (up * Y),
-    )
-
 -- x′ is x with one constant, up less down, added at each of the m places
 abbrev pub Moved : ℕ → ℕ → ℕ → (ℕ → ℕ) → (ℕ → ℕ) → Type 0
 Moved m up down x x′ = (k : ℕ) → k < m → x′ k + down ≡ x k + up
@@ -147,7 +141,8 @@ module _ (m up down : ℕ) (x x′ : ℕ → ℕ) (moved : Moved m up down x x�
   spread-moved y =
       let sums = sum-shift m up down ones x x′ (λ k l. omega (arith, moved k l)) in
       let products = sum-shift m up down y (λ (k : ℕ). x k * y k) (λ (k : ℕ). x′ k * y k) (λ k l. term k (y k) (moved k l)) in
-      ⊖-eq _ _ _ _ (shifted-sums m up down (sumTo m x) (sumTo m y) _ (sumTo m x′) _ (rw (all m x) at sums) products)
+      let cross = shift-cross up down m (sumTo m x) (sumTo m x′) (sumTo m y) _ _ (rw (all m x) at sums) products in
+      ⊖-eq _ _ _ _ (omega (arith, cross, mul-comm m (sumTo m (λ (k : ℕ). x k * y k)), mul-comm m (sumTo m (λ (k : ℕ). x′ k * y k))))
     where
       term : (k v : ℕ) → x′ k + down ≡ x k + up → Shifted up down v (x k * v) (x′ k * v)
       term k v e = omega (arith, add-mul (x′ k) down v, add-mul (x k) up v, ap (λ (t : ℕ). t * v) e)

@@ -24,7 +24,7 @@ use Rattle.verdict.specs.declared.Verdict.{Verdict}
 use Rattle.verdict.specs.declared.Verdict.the-variants as verdict
 use Rattle.verdict.proofs.Verdicts.{then-assoc, then-clear, unless}
 use Rattle.verdict.proofs.Answers.{answer-then, answer-same, paper-told}
-use Rattle.gain.specs.Gain.{Curve, outOfLimits, badList, badEnds, chosen, numerator, denominator, tooLarge, transferVerdict, gainOf, transferAnswer, paperOf, transferPaper}
+use Rattle.gain.specs.Gain.{Curve, outOfLimits, badLength, badList, badEnds, chosen, numerator, denominator, tooLarge, transferVerdict, gainOf, transferAnswer, paperOf, transferPaper}
 use Rattle.gain.specs.Slope.{jointSpread, allEqual}
 use Rattle.gain.specs.Walk.{isChosen, Room, summed, topped, noted, taken, withPoint, nothingYet, walkedOf, partsOf, listVerdict, partsVerdict, measuredOf, finished}
 use Rattle.gain.specs.declared.Fit.{Fit}
@@ -42,36 +42,43 @@ walked-few n = ⊎-elim (λ t. rw t (omega arith)) (λ f. rw f (ltb-false 64 n f
 pub walked-inside : (n : ℕ) → walkedOf n ≤ n
 walked-inside n = ⊎-elim (λ t. rw t (omega arith)) (λ f. rw f (le-refl n)) (true-or-false (ltb 64 n))
 
+too-long : (n : ℕ) → ltb 64 n ≡ true → badLength n ≡ true
+unfolding badLength
+too-long n t = rw t (or-true (eqb n 0))
+
 walked-all : (n : ℕ) → ltb 64 n ≡ false → walkedOf n ≡ n
 walked-all n f = rw f
 
--- ---- what 3 leaves, as far as the walk finds it
-pub record Passed (beyond : Bool) (count first last : ℕ) : Type 0 where
+-- ---- what 3 leaves
+-- of a list's length and the ends
+pub record Reached (count first last : ℕ) : Type 0 where
   pub few : count ≤ 64
-  pub none-beyond : beyond ≡ false
   pub forward : first ≤ last
   pub inside : last < count
 
-pub list-clear : (beyond : Bool) (count first last : ℕ) → listVerdict beyond count first last ≡ verdict.Clear → Passed beyond count first last
-unfolding badEnds
+-- and of what the walk has found
+pub list-clear : (beyond : Bool) (count first last : ℕ) → listVerdict beyond count first last ≡ verdict.Clear → (beyond ≡ false) × Reached count first last
+unfolding badLength badEnds
 list-clear beyond count first last e =
     let both = then-clear _ _ e in
-    let list = neither (ltb 64 count) beyond (neither (eqb count 0) _ (unless _ _ (both .0)) .1) in
-    let ends = neither (leb count last) (ltb last first) (neither (leb count first) _ (unless _ _ (both .1)) .1) in
-    record {
-      few = ltb-false 64 count (list .0);
-      none-beyond = list .1;
-      forward = ltb-false last first (ends .1);
-      inside = leb-false count last (ends .0);
-    }
+    let list = neither (eqb count 0 || ltb 64 count) beyond (unless _ _ (both .0)) in
+    let ends = neither (leb count last) (ltb last first) (neither (leb count first) _ (unless _ _ (both .1)) .1) in (
+      list .1,
+      record {
+        few = ltb-false 64 count (neither (eqb count 0) (ltb 64 count) (list .0) .1);
+        forward = ltb-false last first (ends .1);
+        inside = leb-false count last (ends .0);
+      },
+    )
 
 -- ---- what 7, 13 and 14 leave
-pub parts-clear : (m : ℕ) (p : Parts) → p .size ≡ natAbs (p .numerator) → partsVerdict m p ≡ verdict.Clear
+pub parts-clear : (m : ℕ) (p : Parts) → partsVerdict m p ≡ verdict.Clear
     → (natAbs (p .numerator) ≤ 2 ^ 53) × (0 < p .denominator) × (p .denominator ≤ 2 ^ 53)
-parts-clear m p s e =
+unfolding tooLarge
+parts-clear m p e =
     let rest = then-clear _ _ (then-clear _ _ e .1) in
-    let small = neither (leb (2 ^ 53) (p .size)) (leb (2 ^ 53) (p .denominator)) (unless _ _ (rest .1)) in (
-      omega (arith, leb-false (2 ^ 53) (p .size) (small .0)),
+    let small = neither (leb (2 ^ 53) (natAbs (p .numerator))) (leb (2 ^ 53) (p .denominator)) (unless _ _ (rest .1)) in (
+      omega (arith, leb-false (2 ^ 53) (natAbs (p .numerator)) (small .0)),
       pos-of-ne-zero (eqb-false (p .denominator) 0 (unless _ _ (rest .0))),
       omega (arith, leb-false (2 ^ 53) (p .denominator) (small .1)),
     )
@@ -80,9 +87,6 @@ parts-clear m p s e =
 pub measured-is : (m : ℕ) (p : Parts) (place : ℕ) (z : ℤ) (x : Float) → partsVerdict m p ≡ verdict.Clear → z ≡ p .numerator → x ≡ signedQuotient z (p .denominator)
     → Measured (record { numerator = z; denominator = p .denominator; slope = x; saturation = place }) ≡ measuredOf m p place
 measured-is m p place z x e ez ex = rw (e, ex, ez)
-
-pub size-is : (p : Parts) (m : ℕ) (t : Sums) → p ≡ partsOf m t → p .size ≡ natAbs (p .numerator)
-size-is p m t e = rw e
 
 -- past 3, what is answered is what is measured of the chosen points
 pub finished-is : (s : Fit) (count first last : ℕ) → listVerdict (s .beyond) count first last ≡ verdict.Clear
@@ -96,7 +100,7 @@ unfolding outOfLimits
 limits x y e = let both = neither (ltb 65520 x) (ltb (2 ^ 28) y) e in (ltb-false 65520 x (both .0), ltb-false 268435456 y (both .1))
 
 -- for more points there is more
-pub room-grows : (i j : ℕ) (t : Sums) → i ≤ j → j ≤ 64 → Room i t → Room j t
+room-grows : (i j : ℕ) (t : Sums) → i ≤ j → j ≤ 64 → Room i t → Room j t
 room-grows i j t l h r = record {
   few = h;
   of-x = omega (arith, r .of-x);
@@ -128,7 +132,7 @@ module _ (c : Curve) (first last : ℕ) where
   abbrev out : ℕ → Bool
   out i = outOfLimits (c .mean i) (c .variance i)
 
-  pub room : (i : ℕ) → i ≤ 64 → Room i (at i .sums)
+  room : (i : ℕ) → i ≤ 64 → Room i (at i .sums)
   unfolding fitTo withPoint
   room zero h = record { few = h; of-x = omega arith; of-y = omega arith; of-xy = omega arith; of-xx = omega arith }
   room (suc i) h = by (out i) (limits (c .mean i) (c .variance i)) (room i (omega arith))
@@ -137,6 +141,10 @@ module _ (c : Curve) (first last : ℕ) where
           → Room (suc i) (cond b (noted (at i)) (taken (at i) (c .mean i) (c .variance i) i (isChosen first last i)) .sums)
       by true f r = room-grows i (suc i) (at i .sums) (omega arith) h r
       by false f r = room-more i (c .mean i) (c .variance i) (at i .sums) (isChosen first last i) h (f refl .0) (f refl .1) r
+
+  -- for any more of a list that is not too long
+  pub room-left : (i : ℕ) → i ≤ 64 → Room 64 (at i .sums)
+  room-left i h = room-grows i 64 (at i .sums) h (le-refl 64) (room i h)
 
   -- ---- a point out of limits is noted
   beyond-is : (i : ℕ) → at i .beyond ≡ someTo i out
@@ -214,7 +222,6 @@ module _ (c : Curve) (first last : ℕ) where
   abbrev chosenParts : Parts
   chosenParts = record {
     numerator = numerator (chosen c first last);
-    size = natAbs (numerator (chosen c first last));
     denominator = denominator (chosen c first last);
   }
 
@@ -256,38 +263,35 @@ module _ (c : Curve) (first last : ℕ) where
   unfolding badList
   list-is =
       ⊎-elim
-      (λ t. rw t)
+      (λ t. rw (too-long (c .count) t))
       (λ f. rw (ap (λ (k : ℕ). at k .beyond) (walked-all (c .count) f) ∙ beyond-is (c .count)))
       (true-or-false (ltb 64 (c .count)))
 
   -- what it leaves
   pub record Legal : Type 0 where
-    pub few : c .count ≤ 64
+    pub ends : Reached (c .count) first last
     pub fine : (i : ℕ) → i < c .count → out i ≡ false
-    pub forward : first ≤ last
-    pub inside : last < c .count
 
   pub legal : threes ≡ verdict.Clear → Legal
   unfolding badList
   legal e =
       let p = list-clear (someTo (c .count) out) (c .count) first last e in
-      record { few = p .few; fine = first-nowhere out (c .count) (p .none-beyond); forward = p .forward; inside = p .inside }
+      record { ends = p .1; fine = first-nowhere out (c .count) (p .0) }
 
   -- 7, 13 and 14 of the chosen points
   abbrev chosenVerdict : Verdict
   chosenVerdict =
       refuseIf 7 0 (ltb (chosen c first last .count) 2)
       ⨟ refuseIf 13 0 (allEqual (chosen c first last .count) (chosen c first last .mean))
-      ⨟ refuseIf 14 0 (tooLarge (chosen c first last))
+      ⨟ refuseIf 14 0 (tooLarge (numerator (chosen c first last)) (denominator (chosen c first last)))
 
   chosen-is : Legal → measuredOf (last + 1 - first) (partsOf (last + 1 - first) (at (walkedOf (c .count)) .sums)) (at (walkedOf (c .count)) .peak .place)
       ≡ answerOf chosenVerdict (Measured (gainOf c first last)) Refused
-  unfolding tooLarge
   chosen-is l =
-      let whole = walked-all (c .count) (le-ltb 64 (c .count) (l .few)) in
+      let whole = walked-all (c .count) (le-ltb 64 (c .count) (l .ends .few)) in
       let sums = ap (λ (k : ℕ). at k .sums) whole ∙ sums-are (c .count) (l .fine) (c .count) (le-refl (c .count)) in
-      let place = ap (λ (k : ℕ). at k .peak .place) whole ∙ place-is (c .count) (l .fine) (omega (arith, l .inside)) in
-      let parts = ap (λ (t : Sums). partsOf (last + 1 - first) t) sums ∙ parts-are (c .count) (l .forward) (l .inside) in
+      let place = ap (λ (k : ℕ). at k .peak .place) whole ∙ place-is (c .count) (l .fine) (omega (arith, l .ends .inside)) in
+      let parts = ap (λ (t : Sums). partsOf (last + 1 - first) t) sums ∙ parts-are (c .count) (l .ends .forward) (l .ends .inside) in
       ap₂ (λ (p : Parts) (k : ℕ). measuredOf (last + 1 - first) p k) parts place ∙ equal
     where
       equal : measuredOf (last + 1 - first) chosenParts (firstGreatest (c .count) (c .variance)) ≡ answerOf chosenVerdict (Measured (gainOf c first last)) Refused

@@ -52,10 +52,13 @@ curveOfRows rows = record {
 unfoldable pub outOfLimits : ℕ → ℕ → Bool
 outOfLimits mean variance = ltb 65520 mean || ltb (2 ^ 28) variance
 
--- 3, of the list: it is empty, has more than 64 points, or some point of it, chosen or not, is out of limits
+-- 3, of the list: it is empty or has more than 64 points,
+unfoldable pub badLength : ℕ → Bool
+badLength count = eqb count 0 || ltb 64 count
+
+-- or some point of it, chosen or not, is out of limits
 unfoldable pub badList : Curve → Bool
-badList c =
-    eqb (c .count) 0 || (ltb 64 (c .count) || someTo (c .count) (λ (i : ℕ). outOfLimits (c .mean i) (c .variance i)))
+badList c = badLength (c .count) || someTo (c .count) (λ (i : ℕ). outOfLimits (c .mean i) (c .variance i))
 
 -- 3, of the ends: one is outside a list of so many points, or they are reversed
 unfoldable pub badEnds : ℕ → ℕ → ℕ → Bool
@@ -78,8 +81,8 @@ abbrev pub denominator : Curve → ℕ
 denominator picked = natAbs (jointSpread (picked .count) (picked .mean) (picked .mean))
 
 -- 14: numerator or denominator is 2^53 or more in size (within the limits of 3 only the numerator can be)
-unfoldable pub tooLarge : Curve → Bool
-tooLarge picked = leb (2 ^ 53) (natAbs (numerator picked)) || leb (2 ^ 53) (denominator picked)
+unfoldable pub tooLarge : ℤ → ℕ → Bool
+tooLarge top bottom = leb (2 ^ 53) (natAbs top) || leb (2 ^ 53) bottom
 
 -- the refusals in their order: 3 of the list and of the ends, 7 where fewer than two points are chosen, 13 where all their means are equal, then 14
 unfoldable pub transferVerdict : Curve → ℕ → ℕ → Verdict
@@ -89,7 +92,7 @@ transferVerdict c first last =
     ⨟ refuseIf 3 0 (badEnds (c .count) first last)
     ⨟ refuseIf 7 0 (ltb (picked .count) 2)
     ⨟ refuseIf 13 0 (allEqual (picked .count) (picked .mean))
-    ⨟ refuseIf 14 0 (tooLarge picked)
+    ⨟ refuseIf 14 0 (tooLarge (numerator picked) (denominator picked))
 
 -- the slope of the chosen points, rounded once, and the saturation: the first place of the greatest variance in the whole list
 abbrev pub gainOf : Curve → ℕ → ℕ → Gain

@@ -1,5 +1,5 @@
 -- What the one walk keeps, and what the functions that it calls make of it: words of inner functions, none of the paper.
-use Prim.Native.Nat.{ℕ, _+_, _-_, _*_, _^_, _≤_}
+use Prim.Native.Nat.{ℕ, _+_, _-_, _*_, _≤_}
 use mathlib.Core.Bool.{Bool, true, false, cond, _&&_, _||_}
 use lib.Dec.{eqb, ltb, leb}
 use lib.IntN.{natAbs}
@@ -8,7 +8,7 @@ use Rattle.exact.specs.Quotient.{signedQuotient}
 use Rattle.verdict.specs.Verdict.{_⨟_, refuseIf}
 use Rattle.verdict.specs.Answer.{answerOf}
 use Rattle.verdict.specs.declared.Verdict.{Verdict}
-use Rattle.gain.specs.Gain.{outOfLimits, badEnds}
+use Rattle.gain.specs.Gain.{outOfLimits, badLength, badEnds, tooLarge}
 use Rattle.gain.specs.declared.Sums.{Sums}
 use Rattle.gain.specs.declared.Peak.{Peak}
 use Rattle.gain.specs.declared.Fit.{Fit}
@@ -58,25 +58,24 @@ nothingYet = record { beyond = false; sums = record { x = 0; y = 0; xy = 0; xx =
 abbrev pub walkedOf : ℕ → ℕ
 walkedOf count = cond (ltb 64 count) 0 count
 
--- the numerator, its size, and the denominator, of m points with these sums
+-- the numerator and the denominator, of m points with these sums
 abbrev pub partsOf : ℕ → Sums → Parts
 partsOf m t = record {
   numerator = m * t .xy ⊖ t .x * t .y;
-  size = natAbs (m * t .xy ⊖ t .x * t .y);
   denominator = natAbs (m * t .xx ⊖ t .x * t .x);
 }
 
 -- 3, as far as the walk has found it
 abbrev pub listVerdict : Bool → ℕ → ℕ → ℕ → Verdict
 listVerdict beyond count first last =
-    refuseIf 3 0 (eqb count 0 || (ltb 64 count || beyond)) ⨟ refuseIf 3 0 (badEnds count first last)
+    refuseIf 3 0 (badLength count || beyond) ⨟ refuseIf 3 0 (badEnds count first last)
 
 -- 7, 13 and 14 of m points with these parts
 abbrev pub partsVerdict : ℕ → Parts → Verdict
 partsVerdict m p =
     refuseIf 7 0 (ltb m 2)
     ⨟ refuseIf 13 0 (eqb (p .denominator) 0)
-    ⨟ refuseIf 14 0 (leb (2 ^ 53) (p .size) || leb (2 ^ 53) (p .denominator))
+    ⨟ refuseIf 14 0 (tooLarge (p .numerator) (p .denominator))
 
 -- the figures of a slope that nothing refuses
 abbrev pub gainFrom : Parts → ℕ → Gain

@@ -2,10 +2,9 @@
 ghost use mathlib.Core.Path.{_≡_};
 ghost use mathlib.Core.Bool.{_||_};
 ghost use Prim.Native.Nat.{_≤_, _<_, _^_};
-ghost use lib.Dec.{eqb, ltb, leb};
 ghost use lib.IntN.{natAbs};
 ghost use Rattle.exact.specs.Quotient.{signedQuotient};
-ghost use Rattle.gain.specs.Gain.{outOfLimits, badEnds, curveOf, pointOf, curveOfRows, transferAnswer, paperOf, transferPaper};
+ghost use Rattle.gain.specs.Gain.{outOfLimits, badLength, badEnds, tooLarge, curveOf, pointOf, curveOfRows, transferAnswer, paperOf, transferPaper};
 ghost use Rattle.gain.specs.Walk.{isChosen, Room, summed, topped, withPoint, nothingYet, walkedOf, partsOf, partsVerdict, measuredOf, finished};
 use verdict::Refusal;
 use verdict::Verdict;
@@ -51,10 +50,9 @@ struct Fit {
     peak: Peak,
 }
 
-// The slope's two parts, and the size of the first.
+// The slope's two parts.
 struct Parts {
     numerator: i64,
-    size: u64,
     denominator: u64,
 }
 
@@ -66,9 +64,6 @@ const MOST_MEAN: u64 = 65520;
 
 // 2 ^ 28 sixteenths.
 const MOST_VARIANCE: u64 = 0x1000_0000;
-
-// 2 ^ 53: numbers below it have an exact float.
-const LARGE: u64 = 0x20_0000_0000_0000;
 
 fn out_of_limits(p: Point) -> bool
     ensures { λ r. ⌜ r ≡ outOfLimits (p .mean) (p .variance) ⌝ }
@@ -89,8 +84,8 @@ fn is_chosen(first: usize, last: usize, i: usize) -> bool
 }
 
 // Where the place is chosen, the sums with this point.
-fn with_sums(i: usize, t: Sums, x: u64, y: u64, chosen: bool) -> Sums
-    requires { ⌜ Room i t ⌝ }
+fn with_sums(t: Sums, x: u64, y: u64, chosen: bool) -> Sums
+    requires { ⌜ Room 64 t ⌝ }
     requires { ⌜ (x ≤ 65520) × (y ≤ 268435456) ⌝ }
     ensures { λ r. ⌜ r ≡ summed t x y chosen ⌝ }
 {
@@ -118,7 +113,7 @@ fn with_peak(peak: Peak, y: u64, i: usize) -> Peak
 
 // One point more, at place i. One out of limits is only noted, so that no sum can overflow.
 fn with_point(s: Fit, p: Point, i: usize, first: usize, last: usize) -> Fit
-    requires { ⌜ Room i (s .sums) ⌝ }
+    requires { ⌜ Room 64 (s .sums) ⌝ }
     ensures { λ r. ⌜ r ≡ withPoint s (p .mean) (p .variance) i first last ⌝ }
 {
     let sums = s.sums;
@@ -132,7 +127,7 @@ fn with_point(s: Fit, p: Point, i: usize, first: usize, last: usize) -> Fit
     }
     Fit {
         beyond: s.beyond,
-        sums: with_sums(i, sums, p.mean, p.variance, is_chosen(first, last, i)),
+        sums: with_sums(sums, p.mean, p.variance, is_chosen(first, last, i)),
         peak: with_peak(peak, p.variance, i),
     }
 }
@@ -162,7 +157,7 @@ fn nothing_yet() -> Fit
 
 // 3, of a list of so many points.
 fn bad_list(count: usize, beyond: bool) -> bool
-    ensures { λ r. ⌜ r ≡ (eqb count 0 || (ltb 64 count || beyond)) ⌝ }
+    ensures { λ r. ⌜ r ≡ (badLength count || beyond) ⌝ }
 {
     if count == 0 {
         return true;
@@ -186,7 +181,7 @@ fn bad_ends(count: usize, first: usize, last: usize) -> bool
     last < first
 }
 
-// The slope's two parts, of m points. Neither product reaches 2^57.
+// The slope's two parts, of m points. No product reaches 2^56.
 fn parts_of(m: u64, t: Sums) -> Parts
     requires { ⌜ (m ≤ 64) × Room 64 t ⌝ }
     ensures { λ r. ⌜ r ≡ partsOf m t ⌝ }
@@ -195,19 +190,18 @@ fn parts_of(m: u64, t: Sums) -> Parts
     let down = t.x * t.y;
     Parts {
         numerator: up as i64 - down as i64,
-        size: exact::apart(up, down),
         denominator: exact::apart(m * t.xx, t.x * t.x),
     }
 }
 
 // 14, of a slope's parts.
 fn too_large(p: Parts) -> bool
-    ensures { λ r. ⌜ r ≡ (leb (2 ^ 53) (p .size) || leb (2 ^ 53) (p .denominator)) ⌝ }
+    ensures { λ r. ⌜ r ≡ tooLarge (p .numerator) (p .denominator) ⌝ }
 {
-    if LARGE <= p.size {
+    if exact::LOSSLESS <= exact::size(p.numerator) {
         return true;
     }
-    LARGE <= p.denominator
+    exact::LOSSLESS <= p.denominator
 }
 
 // 7, 13 and 14: the denominator is 0 just where all means are equal.
@@ -230,7 +224,6 @@ fn slope_of(z: i64, q: u64) -> f64
 
 // The figures of m points with these parts, or the refusal.
 fn measure(m: usize, p: Parts, place: usize) -> Transfer
-    requires { ⌜ p .size ≡ natAbs (p .numerator) ⌝ }
     ensures { λ r. ⌜ r ≡ measuredOf m p place ⌝ }
 {
     match judge_parts(m, p) {

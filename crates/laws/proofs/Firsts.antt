@@ -73,7 +73,7 @@ module _ (test : ℕ → Bool) where
       (λ g. le-ltb (firstTo n test) n g)
       (lt-or-ge (firstTo n test) n)
 
-  -- so what is found is the end
+  -- what is found is then the end
   pub first-end : (n : ℕ) → ((i : ℕ) → i < n → test i ≡ false) → firstTo n test ≡ n
   first-end zero none = first-none
   first-end (suc n) none = rw (add-one n) at (first-past n (first-end n (λ i l. none i (omega arith))) (none n (le-refl (suc n))))

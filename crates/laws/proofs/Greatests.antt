@@ -1,4 +1,4 @@
--- The laws of the greatest of some numbers.
+-- The laws of the greatest of some numbers, and of where it stands first.
 use Prim.Native.Nat.{ℕ, zero, suc, _+_, _-_, _<_, _≤_}
 use mathlib.Core.Bool.{Bool, true, false, cond}
 use mathlib.Core.Logic.{⊎-elim}

@@ -3,7 +3,7 @@ use Prim.Native.Nat.{ℕ, zero, suc, _+_, _-_, _*_, _<_, _≤_, zero-le, min}
 use mathlib.Core.Bool.{cond}
 use mathlib.Core.Logic.{⊎-elim}
 use mathlib.Core.Path.{_≡_, refl, sym, ap, ap₂, _∙_}
-use native.Mathlib.Nat.{le-refl, le-trans, le-of-eq, sub-self, add-zero, zero-add, add-suc, suc-mul, add-le-add, mul-add, mul-zero, zero-mul, le-of-suc-le-suc, eq-or-lt-of-le, add-comm}
+use native.Mathlib.Nat.{le-refl, le-trans, le-of-eq, sub-self, add-zero, zero-add, add-suc, suc-mul, add-le-add, add-mul, mul-add, mul-right-comm, mul-zero, zero-mul, le-of-suc-le-suc, eq-or-lt-of-le, add-comm}
 use native.Mathlib.Numerals.{add-one}
 use native.Mathlib.Omega.{arith}
 use lib.Dec.{eqb}
@@ -113,6 +113,13 @@ sum-shift (suc n) up down c f g h =
       mul-add down (sumTo n c) (c n),
       mul-add up (sumTo n c) (c n),
     )
+
+-- two that are shifted by one constant, each times how often it was added to the other, grow alike
+pub shift-cross : (up down c s t C S T : ℕ) → Shifted up down c s t → Shifted up down C S T → s * C + T * c ≡ t * C + S * c
+shift-cross up down c s t C S T p q =
+    let one : t * C + down * c * C ≡ s * C + up * c * C = sym (add-mul t (down * c) C) ∙ ap (λ (x : ℕ). x * C) p ∙ add-mul s (up * c) C in
+    let other : T * c + down * C * c ≡ S * c + up * C * c = sym (add-mul T (down * C) c) ∙ ap (λ (x : ℕ). x * c) q ∙ add-mul S (up * C) c in
+    omega (arith, mul-right-comm down C c, mul-right-comm up C c)
 
 -- rows before columns, or columns before rows
 pub sum-swap : (n m : ℕ) (g : ℕ → ℕ → ℕ) → sumTo n (λ (i : ℕ). sumTo m (λ (j : ℕ). g i j)) ≡ sumTo m (λ (j : ℕ). sumTo n (λ (i : ℕ). g i j))

@@ -10,7 +10,7 @@ use lib.Dec.{ltb}
 use borrow.Author.Tests.{le-ltb}
 use Rattle.laws.specs.Sum.{sumTo, sumIn}
 use Rattle.laws.specs.Signed.{apart}
-use Rattle.laws.proofs.Sums.{Shifted, in-shift}
+use Rattle.laws.proofs.Sums.{Shifted, in-shift, shift-cross}
 use Rattle.window.specs.View.{seen, one}
 use Rattle.plane.proofs.Planes.{box-at-most, seen-scaled}
 use Rattle.lines.specs.Lines.{Lines, before, after, pooled, defective, markOf, lineSum}
@@ -19,11 +19,7 @@ use Rattle.lines.proofs.Pools.{before-in, after-in}
 -- s × C and S × c stay as far apart
 apart-shift : (up down c s t C S T : ℕ) → Shifted up down c s t → Shifted up down C S T → apart (s * C) (S * c) ≡ apart (t * C) (T * c)
 apart-shift up down c s t C S T p q =
-    let own : t * C + down * c * C ≡ s * C + up * c * C = sym (add-mul t (down * c) C) ∙ ap (λ (x : ℕ). x * C) p ∙ add-mul s (up * c) C in
-    let pool : T * c + down * C * c ≡ S * c + up * C * c = sym (add-mul T (down * C) c) ∙ ap (λ (x : ℕ). x * c) q ∙ add-mul S (up * C) c in
-    let d : down * C * c ≡ down * c * C = mul-assoc down C c ∙ ap (λ (x : ℕ). down * x) (mul-comm C c) ∙ sym (mul-assoc down c C) in
-    let u : up * C * c ≡ up * c * C = mul-assoc up C c ∙ ap (λ (x : ℕ). up * x) (mul-comm C c) ∙ sym (mul-assoc up c C) in
-    omega arith
+    omega (arith, shift-cross up down c s t C S T p q)
 
 module _ (n up down l : ℕ) (some : 9 ≤ n) (inside : l < n) (c s t : ℕ → ℕ) (shift : (m : ℕ) → m < n → Shifted up down (c m) (s m) (t m)) where
   pooled-shift : Shifted up down (pooled n c l) (pooled n s l) (pooled n t l)

@@ -235,6 +235,19 @@ refuses {ts} (Refused r) t n u =
     let above : 0 < r .number = number-above ts n (t .only r refl) in
     record { refused = λ f. u r refl; accepted = λ e. absurd (omega arith) }
 
+-- a table whose places are all 0 gives no other
+abbrev pub unplaced : List Test → Bool
+unplaced [] = true
+unplaced (t ∷ ts) = eqb (t .refusal .place) 0 && unplaced ts
+
+given-unplaced : (ts : List Test) {r : Refusal} → unplaced ts ≡ true → Given ts r → r .place ≡ 0
+given-unplaced (t ∷ ts) e (here a) = eqb-true (t .refusal .place) 0 (and-true (eqb (t .refusal .place) 0) (unplaced ts) e .0)
+given-unplaced (t ∷ ts) e (later a g) = given-unplaced ts (and-true (eqb (t .refusal .place) 0) (unplaced ts) e .1) g
+
+pub never-placed : {ts : List Test} (v : Verdict) → Tabled v ts → unplaced ts ≡ true → placeOf v ≡ 0
+never-placed Clear t u = refl
+never-placed {ts} (Refused r) t u = given-unplaced ts u (t .only r refl)
+
 -- ---- demand 1 as document 02 d amends it: 6 counts the samples that are over, and no other number counts anything
 -- of a call's number and its over: at 6 just so many samples, and at least 1; else 0
 pub record OverAtSix (number over samples : ℕ) : Type 0 where

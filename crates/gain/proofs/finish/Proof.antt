@@ -8,7 +8,7 @@ use Rattle.verdict.specs.declared.Verdict.the-variants as verdict
 use Rattle.verdict.proofs.Verdicts.{then-of}
 use Rattle.gain.specs.Walk.{listVerdict, partsOf, measuredOf, finished}
 use Rattle.gain.specs.declared.Parts.{Parts}
-use Rattle.gain.proofs.Walks.{Passed, list-clear, size-is, finished-is}
+use Rattle.gain.proofs.Walks.{Reached, list-clear, finished-is}
 use Rattle.gain.proofs.finish.Statement.{statement}
 use Rattle.gain.proofs.finish.Tie as tie
 
@@ -30,8 +30,8 @@ module _ (c : tie.After-enum-told) where
   cleared : listVerdict (begun .args .s .beyond) (begun .args .count) (begun .args .first) (begun .args .last) ≡ verdict.Clear
   cleared = sym (listed (c .before .before)) ∙ c .enum-told .given .1
 
-  passed : Passed (begun .args .s .beyond) (begun .args .count) (begun .args .first) (begun .args .last)
-  passed = list-clear _ _ _ _ cleared
+  passed : Reached (begun .args .count) (begun .args .first) (begun .args .last)
+  passed = list-clear _ _ _ _ cleared .1
 
   counted : begun .args .last - begun .args .first + 1 ≡ begun .args .last + 1 - begun .args .first
   counted = omega (arith, passed .forward)
@@ -67,7 +67,7 @@ parts-of-requires : tie.Need-parts-of-requires
 parts-of-requires c κs = (omega (arith, passed c .inside, passed c .few), begun c .pre)
 
 measure-requires : tie.Need-measure-requires
-measure-requires c κs = size-is (c .parts-of .result) _ _ (c .parts-of .ensures)
+measure-requires c κs = search needs
 
 returns : tie.Need-returns
 unfolding finished

@@ -30,7 +30,7 @@ slope-of-requires : tie.Need-slope-of-requires
 slope-of-requires c κs =
     let start = begun (c .before) in
     let back : toZ w64 (ofZ w64 (start .args .p .numerator)) ≡ start .args .p .numerator = search needs in
-    rw back (parts-clear (start .args .m) (start .args .p) (start .pre) (cleared (c .before)))
+    rw back (parts-clear (start .args .m) (start .args .p) (cleared (c .before)))
 
 returns : tie.Need-returns
 returns c = rw (sym (c .before .before .before .judge-parts .ensures) ∙ c .before .refusal .given .1)

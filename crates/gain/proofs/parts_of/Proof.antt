@@ -1,4 +1,4 @@
--- `parts_of` is right because no product reaches 2 ^ 57, so both casts and the difference fit, and the sizes of the two differences are how far the products are apart.
+-- `parts_of` is right because no product reaches 2 ^ 56, so both casts and the difference fit, and the size of the other difference is how far its products are apart.
 use Prim.Native.Nat.{ℕ, _*_, _≤_}
 use native.Mathlib.Omega.{arith}
 use borrow.Author.Needs.{needs}
@@ -53,30 +53,25 @@ cast-t6 c = nat-fits (t c .x * t c .y) (omega (arith, down-is c))
 sub-t7 : tie.Need-sub-t7
 sub-t7 c = less-fits (m c * t c .xy) (t c .x * t c .y) (omega (arith, up-is c)) (omega (arith, down-is c))
 
-apart-requires : tie.Need-apart-requires
-apart-requires c κs = search needs
-
 mul-apart : tie.Need-mul-apart
 mul-apart c =
-    let start = c .before .before .before .before in
+    let start = c .before .before .before in
     omega (arith, squares (start .args .m) (start .args .t) (start .pre .0) (start .pre .1))
 
 mul-apart-2 : tie.Need-mul-apart-2
 mul-apart-2 c =
-    let start = c .before .before .before .before .before in
+    let start = c .before .before .before .before in
     omega (arith, square (start .args .m) (start .args .t) (start .pre .0) (start .pre .1))
 
-apart-requires-2 : tie.Need-apart-requires-2
-apart-requires-2 c κs = search needs
+apart-requires : tie.Need-apart-requires
+apart-requires c κs = search needs
 
 returns : tie.Need-returns
 returns c =
-    let here = c .before .before .before .before in
+    let here = c .before .before .before in
     rw (
       less-is (m here * t here .xy) (t here .x * t here .y) (omega (arith, up-is here)) (omega (arith, down-is here)) .val,
-      c .before .before .before .apart .ensures,
-      c .apart2 .ensures,
-      ⊖-size (m here * t here .xy) (t here .x * t here .y),
+      c .apart .ensures,
       ⊖-size (m here * t here .xx) (t here .x * t here .x),
     )
 
@@ -89,8 +84,7 @@ parts-of-spec =
     cast-t5
     cast-t6
     sub-t7
-    apart-requires
     mul-apart
     mul-apart-2
-    apart-requires-2
+    apart-requires
     returns)

@@ -3,10 +3,10 @@
 -- by value. All that the walk knows of the four functions that it calls is that each meets its contract.
 use mathlib.Core.Path.{_≡_, refl, sym, subst}
 use mathlib.Core.Bool.{Bool}
-use mathlib.Core.Logic.{_⊎_, ⊎-elim}
+use mathlib.Core.Logic.{⊎-elim}
 use mathlib.Core.WellFounded.{WellFounded, InvImage·wf}
 use Prim.Native.Nat.{ℕ, suc, _-_, _<_, _≤_, _^_}
-use native.Mathlib.Nat.{le-refl, eq-or-lt-of-le}
+use native.Mathlib.Nat.{eq-or-lt-of-le}
 use native.Mathlib.Numerals.{add-one}
 use native.Mathlib.Omega.{arith}
 use mathlib.Core.List.{List, [], _∷_}
@@ -57,7 +57,7 @@ use Rattle.gain.specs.declared.Point.{Point}
 use Rattle.gain.specs.declared.Fit.{Fit}
 use Rattle.gain.specs.declared.Transfer.{Transfer}
 use Rattle.gain.proofs.Calls.{told, calls-plain, says-both}
-use Rattle.gain.proofs.Walks.{fitTo, walked-few, walked-inside, room, room-grows, answered}
+use Rattle.gain.proofs.Walks.{fitTo, walked-few, walked-inside, room-left, answered}
 use Rattle.gain.proofs.Point as T
 use Rattle.gain.proofs.Point.Laws as T′
 use Rattle.gain.proofs.Fit as S
@@ -149,7 +149,7 @@ module _ {M : Type 1} (𝓤 : URA M) (H : Heap 𝓤) (A : Atoms 𝓤) (W : Given
   to-point s p i l h =
       ((tt, tt, tt, (s, (p, (i, (l, (h, tt))))), (fit s ∷ [], (point p ∷ [], (vint w64 i ∷ [], (vint w64 l ∷ [], (vint w64 h ∷ [], tt)))))), tt)
 
-  asks-point : (s : Fit) (p : Point) (i l h : ℕ) → IsFit s → Is T.the-row p (point p ∷ []) → i < 2 ^ 64 → l < 2 ^ 64 → h < 2 ^ 64 → Roomy i (s .sums)
+  asks-point : (s : Fit) (p : Point) (i l h : ℕ) → IsFit s → Is T.the-row p (point p ∷ []) → i < 2 ^ 64 → l < 2 ^ 64 → h < 2 ^ 64 → Roomy 64 (s .sums)
       → ent 𝓤 (emp 𝓤) (WithPoint .pre (to-point s p i l h))
   asks-point s p i l h gs gp gi gl gh r =
       qed W [] ∵ says ! r $ nothing ! $ owned ! usize (Is usize) (uint-makes 𝓤 H A W w64) h _ (refl, gh) $ fjoin ! $
@@ -276,7 +276,7 @@ module _ {M : Type 1} (𝓤 : URA M) (H : Heap 𝓤) (A : Atoms 𝓤) (W : Given
           assigns ! (of-opd ! (load ! (from ! (hop ! (look ! 8 refl) (stop !))) (look-raw ! 0 refl))) (from ! (stop !)) (init ! 6 refl (LL.lawful T.the-type T′.the-laws 𝓤 H A W .typed (getD ys i noPoint) _ g .0)) $
           elem-back ! T.the-row q′ ys i noPoint (point (getD ys i noPoint) ∷ []) b o inside $ shuts-slice ! tt T.the-row q′ ys b o $ move ! (1 ∷ 0 ∷ []) $
           calls-plain ! fm (WithPoint 𝓤 H A W mem run) known-point (to-point 𝓤 H A W mem run (after i) (getD ys i noPoint) i low high) (fit (after (suc i)))
-          (asks-point 𝓤 H A W mem run (after i) (getD ys i noPoint) i low high is g (omega (arith, early)) gl gh (room (curveOf ys) low high i (omega (arith, early))))
+          (asks-point 𝓤 H A W mem run (after i) (getD ys i noPoint) i low high is g (omega (arith, early)) gl gh (room-left (curveOf ys) low high i (omega (arith, early))))
           (tells-point 𝓤 H A W mem run (after i) (getD ys i noPoint) i low high)
           (and-then ! (load ! (from ! (stop !)) (look ! 16 refl)) (and-then ! (load ! (from ! (stop !)) (look ! 4 refl)) (and-then ! (load ! (from ! (stop !)) (look ! 14 refl))
           (and-then ! (load ! (from ! (stop !)) (look ! 22 refl)) (and-then ! (load ! (from ! (stop !)) (look ! 20 refl)) (no-more !)))))) (λ iss.
@@ -300,7 +300,7 @@ module _ {M : Type 1} (𝓤 : URA M) (H : Heap 𝓤) (A : Atoms 𝓤) (W : Given
           leaves-loop ! (load ! (from ! (stop !)) (look ! 9 refl)) $ exec ! C Λ E mir.t-6 (atRet E Post) $
           assigns ! (of-opd ! (load ! (from ! (fld ! refl (stop !))) (look-in ! 23 (sub ! 1 refl (whole !))))) (from ! (stop !)) (store ! 11 refl (tt, record { fits = longest .0 })) $
           calls-plain ! fm (Finish 𝓤 H A W mem run) known-finish (to-finish 𝓤 H A W mem run (after n) (length ys) low high) (ans found)
-          (asks-finish 𝓤 H A W mem run (after n) (length ys) low high is (longest .0) gl gh (room-grows n 64 (after n .sums) (walked-few (length ys)) (le-refl 64) (room (curveOf ys) low high n (walked-few (length ys)))))
+          (asks-finish 𝓤 H A W mem run (after n) (length ys) low high is (longest .0) gl gh (room-left (curveOf ys) low high n (walked-few (length ys))))
           (tells-finish 𝓤 H A W mem run (after n) (length ys) low high)
           (and-then ! (load ! (from ! (stop !)) (look ! 16 refl)) (and-then ! (load ! (from ! (stop !)) (look ! 12 refl))
           (and-then ! (load ! (from ! (stop !)) (look ! 22 refl)) (and-then ! (load ! (from ! (stop !)) (look ! 20 refl)) (no-more !))))) (λ isa.

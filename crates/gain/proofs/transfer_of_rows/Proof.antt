@@ -1,7 +1,6 @@
 -- `transfer_of_rows` is right because each turn adds the point that the next row holds, and what is finished after the last is the answer.
 use Prim.Native.Nat.{_-_, _≤_}
 use mathlib.Core.Path.{_≡_, sym, ap₂, _∙_, subst}
-use native.Mathlib.Nat.{le-refl}
 use native.Mathlib.Omega.{arith}
 use lib.ListN.{length}
 use borrow.Author.Needs.{needs}
@@ -9,7 +8,7 @@ use Rattle.gain.specs.Gain.{curveOfRows}
 use Rattle.gain.specs.Walk.{Room, withPoint}
 use Rattle.gain.specs.declared.Fit.{Fit}
 use Rattle.gain.specs.declared.Point.{Point}
-use Rattle.gain.proofs.Walks.{fitTo, walked-few, walked-inside, room, room-grows, fit-more, answered}
+use Rattle.gain.proofs.Walks.{fitTo, walked-few, walked-inside, room-left, fit-more, answered}
 use Rattle.gain.proofs.transfer_of_rows.Statement.{statement}
 use Rattle.gain.proofs.transfer_of_rows.Tie as tie
 
@@ -27,8 +26,8 @@ module _ (c : tie.At-loop Inv-loop μ-loop) where
   few : c .loop .i ≤ 64
   few = omega (arith, walked-few (length (begun .args .rows .now)), c .before .before .walked .ensures, c .loop .inv .0)
 
-  roomy : Room (c .loop .i) (c .loop .s .sums)
-  roomy = subst (λ (s : Fit). Room (c .loop .i) (s .sums)) (sym (c .loop .inv .1)) (room (curveOfRows (begun .args .rows .now)) (begun .args .first) (begun .args .last) (c .loop .i) few)
+  roomy : Room 64 (c .loop .s .sums)
+  roomy = subst (λ (s : Fit). Room 64 (s .sums)) (sym (c .loop .inv .1)) (room-left (curveOfRows (begun .args .rows .now)) (begun .args .first) (begun .args .last) (c .loop .i) few)
 
 walked-requires : tie.Need-walked-requires Inv-loop μ-loop
 walked-requires c κs = search needs
@@ -69,7 +68,7 @@ loop-again c =
     )
 
 finish-requires : tie.Need-finish-requires Inv-loop μ-loop
-finish-requires c κs = room-grows _ 64 _ (few (c .before)) (le-refl 64) (roomy (c .before))
+finish-requires c κs = roomy (c .before)
 
 returns : tie.Need-returns Inv-loop μ-loop
 returns c =

@@ -14,23 +14,23 @@ module _ (c : tie.Then1) where
   xx : c .before .args .x * c .before .args .x ≤ 4292870400
   xx = times-le (c .before .args .x) (c .before .args .x) 65520 65520 (c .before .pre .1 .0) (c .before .pre .1 .0)
 
+add-t7 : tie.Need-add-t7
+add-t7 c = search needs
+
 add-t8 : tie.Need-add-t8
 add-t8 c = search needs
 
-add-t9 : tie.Need-add-t9
-add-t9 c = search needs
+mul-t9 : tie.Need-mul-t9
+mul-t9 c = omega (arith, xy (c .before .before), xx (c .before .before))
 
-mul-t10 : tie.Need-mul-t10
-mul-t10 c = omega (arith, xy (c .before .before), xx (c .before .before))
+add-t10 : tie.Need-add-t10
+add-t10 c = omega (arith, xy (c .before .before .before), xx (c .before .before .before))
 
-add-t11 : tie.Need-add-t11
-add-t11 c = omega (arith, xy (c .before .before .before), xx (c .before .before .before))
+mul-t11 : tie.Need-mul-t11
+mul-t11 c = omega (arith, xy (c .before .before .before), xx (c .before .before .before))
 
-mul-t12 : tie.Need-mul-t12
-mul-t12 c = omega (arith, xy (c .before .before .before), xx (c .before .before .before))
-
-add-t13 : tie.Need-add-t13
-add-t13 c = omega (arith, xy (c .before .before .before .before), xx (c .before .before .before .before))
+add-t12 : tie.Need-add-t12
+add-t12 c = omega (arith, xy (c .before .before .before .before), xx (c .before .before .before .before))
 
 returns : tie.Need-returns
 returns c = simp (c .before .before .before .before .if1 .taken)
@@ -40,4 +40,4 @@ returns-2 c = simp (c .if1 .left)
 
 pub with-sums-spec : {M : Type 1} → statement M
 with-sums-spec =
-    tie.close (tie.spec add-t8 add-t9 mul-t10 add-t11 mul-t12 add-t13 returns returns-2)
+    tie.close (tie.spec add-t7 add-t8 mul-t9 add-t10 mul-t11 add-t12 returns returns-2)
