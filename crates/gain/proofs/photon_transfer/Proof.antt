@@ -122,6 +122,13 @@ module _ {M : Type 1} (𝓤 : URA M) (H : Heap 𝓤) (A : Atoms 𝓤) (W : Given
   abbrev Finish : Contract 𝓤
   Finish = tripleOf 𝓤 H A finish.signature (finish.spec 𝓤 H A mem run)
 
+  -- that each function that is called meets its contract
+  record Known (𝓣 : Tables 𝓤 H) : Type 1 where
+    few : Triple 𝓤 (𝓣 .C #gain·walked) Few
+    start : Triple 𝓤 (𝓣 .C #gain·nothing-yet) Start
+    point : Triple 𝓤 (𝓣 .C #gain·with-point) WithPoint
+    finish : Triple 𝓤 (𝓣 .C #gain·finish) Finish
+
   -- `walked` at k
   abbrev to-few : ℕ → Few .Ghost
   to-few k = ((tt, tt, tt, (k, tt), (vint w64 k ∷ [], tt)), tt)
@@ -226,8 +233,7 @@ module _ {M : Type 1} (𝓤 : URA M) (H : Heap 𝓤) (A : Atoms 𝓤) (W : Given
       move ! (2 ∷ 0 ∷ []) $ fjoin ! $ move ! (1 ∷ 0 ∷ []) $ frame ! $ frame ! $
       owned ! G.the-row (Is G.the-row) (EL.makes G.the-type G′.the-plain 𝓤 H A) found _ is $ done !
 
-  module _ (𝓣 : Tables 𝓤 H) (fm : FmC 𝓤 H (W .laws) (𝓣 .C)) (known-few : Triple 𝓤 (𝓣 .C #gain·walked) (Few 𝓤 H A W mem run)) (known-start : Triple 𝓤 (𝓣 .C #gain·nothing-yet) (Start 𝓤 H A W mem run)) (known-point : Triple 𝓤 (𝓣 .C #gain·with-point) (WithPoint 𝓤 H A W mem run)) (known-finish : Triple 𝓤 (𝓣 .C #gain·finish) (Finish 𝓤 H A W mem run))
-      (longest : Room T.the-row (length ys)) (gl : low < 2 ^ 64) (gh : high < 2 ^ 64) where
+  module _ (𝓣 : Tables 𝓤 H) (fm : FmC 𝓤 H (W .laws) (𝓣 .C)) (known : Known 𝓤 H A W mem run 𝓣) (longest : Room T.the-row (length ys)) (gl : low < 2 ^ 64) (gh : high < 2 ^ 64) where
     abbrev C : Calls 𝓤 H
     C = 𝓣 .C
 
@@ -275,7 +281,7 @@ module _ {M : Type 1} (𝓤 : URA M) (H : Heap 𝓤) (A : Atoms 𝓤) (W : Given
           -- [the point's cell; what it owns; the others; what shuts; the borrow; what the slice owns; _11; …]
           assigns ! (of-opd ! (load ! (from ! (hop ! (look ! 8 refl) (stop !))) (look-raw ! 0 refl))) (from ! (stop !)) (init ! 6 refl (LL.lawful T.the-type T′.the-laws 𝓤 H A W .typed (getD ys i noPoint) _ g .0)) $
           elem-back ! T.the-row q′ ys i noPoint (point (getD ys i noPoint) ∷ []) b o inside $ shuts-slice ! tt T.the-row q′ ys b o $ move ! (1 ∷ 0 ∷ []) $
-          calls-plain ! fm (WithPoint 𝓤 H A W mem run) known-point (to-point 𝓤 H A W mem run (after i) (getD ys i noPoint) i low high) (fit (after (suc i)))
+          calls-plain ! fm (WithPoint 𝓤 H A W mem run) (known .point) (to-point 𝓤 H A W mem run (after i) (getD ys i noPoint) i low high) (fit (after (suc i)))
           (asks-point 𝓤 H A W mem run (after i) (getD ys i noPoint) i low high is g (omega (arith, early)) gl gh (room-left (curveOf ys) low high i (omega (arith, early))))
           (tells-point 𝓤 H A W mem run (after i) (getD ys i noPoint) i low high)
           (and-then ! (load ! (from ! (stop !)) (look ! 16 refl)) (and-then ! (load ! (from ! (stop !)) (look ! 4 refl)) (and-then ! (load ! (from ! (stop !)) (look ! 14 refl))
@@ -299,7 +305,7 @@ module _ {M : Type 1} (𝓤 : URA M) (H : Heap 𝓤) (A : Atoms 𝓤) (W : Given
           rewrite ! 9 (λ (t : Bool). ‵ (fat fullShare tyBool l₈ 0 (vbool t))) (le-ltb n n (omega arith)) refl $
           leaves-loop ! (load ! (from ! (stop !)) (look ! 9 refl)) $ exec ! C Λ E mir.t-6 (atRet E Post) $
           assigns ! (of-opd ! (load ! (from ! (fld ! refl (stop !))) (look-in ! 23 (sub ! 1 refl (whole !))))) (from ! (stop !)) (store ! 11 refl (tt, record { fits = longest .0 })) $
-          calls-plain ! fm (Finish 𝓤 H A W mem run) known-finish (to-finish 𝓤 H A W mem run (after n) (length ys) low high) (ans found)
+          calls-plain ! fm (Finish 𝓤 H A W mem run) (known .finish) (to-finish 𝓤 H A W mem run (after n) (length ys) low high) (ans found)
           (asks-finish 𝓤 H A W mem run (after n) (length ys) low high is (longest .0) gl gh (room-left (curveOf ys) low high n (walked-few (length ys))))
           (tells-finish 𝓤 H A W mem run (after n) (length ys) low high)
           (and-then ! (load ! (from ! (stop !)) (look ! 16 refl)) (and-then ! (load ! (from ! (stop !)) (look ! 12 refl))
@@ -334,10 +340,10 @@ module _ {M : Type 1} (𝓤 : URA M) (H : Heap 𝓤) (A : Atoms 𝓤) (W : Given
         pass1 ! (init ! 20 refl (tt, (tt, (record { fits = longest .0 }, tt)))) $ pass1 ! (init ! 18 refl (tt, record { fits = gl })) $
         pass1 ! (init ! 16 refl (tt, record { fits = gh })) $ pass0 ! $
         assigns ! (of-opd ! (load ! (from ! (fld ! refl (stop !))) (look-in ! 20 (sub ! 1 refl (whole !))))) (from ! (stop !)) (init ! 8 refl (tt, record { fits = longest .0 })) $
-        calls-plain ! fm (Few 𝓤 H A W mem run) known-few (to-few 𝓤 H A W mem run (length ys)) (vint w64 n) (asks-few 𝓤 H A W mem run (length ys) (longest .0)) (tells-few 𝓤 H A W mem run (length ys))
+        calls-plain ! fm (Few 𝓤 H A W mem run) (known .few) (to-few 𝓤 H A W mem run (length ys)) (vint w64 n) (asks-few 𝓤 H A W mem run (length ys) (longest .0)) (tells-few 𝓤 H A W mem run (length ys))
         (and-then ! (load ! (from ! (stop !)) (look ! 9 refl)) (no-more !)) (λ isn.
         land ! (from ! (stop !)) (init ! 14 refl (tt, record { fits = isn .1 })) $
-        calls-plain ! fm (Start 𝓤 H A W mem run) known-start (to-start 𝓤 H A W mem run) (fit (after 0)) (asks-start 𝓤 H A W mem run) (tells-start 𝓤 H A W mem run) (no-more !) (λ iss.
+        calls-plain ! fm (Start 𝓤 H A W mem run) (known .start) (to-start 𝓤 H A W mem run) (fit (after 0)) (asks-start 𝓤 H A W mem run) (tells-start 𝓤 H A W mem run) (no-more !) (λ iss.
         land ! (from ! (stop !)) (init ! 12 refl (LL.lawful S.the-type S′.the-laws 𝓤 H A W .typed (after 0) _ iss .0)) $
         assigns ! (of-opd ! (lit ! tt)) (from ! (stop !)) (init ! 10 refl (tt, record { fits = lit< tt })) $
         -- the slice is Copy: one copy of what it owns is kept for the exit, and of the other the fractured borrow is taken
@@ -347,12 +353,11 @@ module _ {M : Type 1} (𝓤 : URA M) (H : Heap 𝓤) (A : Atoms 𝓤) (W : Given
         use0 W (given (Facts l₀ l₁ l₂ l₃ l₄ l₅ l₆ l₇ l₈ l₉ l₁₀ l₁₁ 0) (‵ ftrue)) (guardI 𝓤 (Facts l₀ l₁ l₂ l₃ l₄ l₅ l₆ l₇ l₈ l₉ l₁₀ l₁₁ 0) (emp 𝓤) (omega arith, iss)) $
         loop-on l₀ l₁ l₂ l₃ l₄ l₅ l₆ l₇ l₈ l₉ l₁₀ l₁₁))))))))))))))
 
-module _ {M : Type 1} (𝓤 : URA M) (H : Heap 𝓤) (A : Atoms 𝓤) (W : Given 𝓤 H A) (mem : Memory → SProp 𝓤) (run : Routine → Fun 𝓤) (𝓣 : Tables 𝓤 H)
-    (known-few : Triple 𝓤 (𝓣 .C #gain·walked) (Few 𝓤 H A W mem run)) (known-start : Triple 𝓤 (𝓣 .C #gain·nothing-yet) (Start 𝓤 H A W mem run)) (known-point : Triple 𝓤 (𝓣 .C #gain·with-point) (WithPoint 𝓤 H A W mem run)) (known-finish : Triple 𝓤 (𝓣 .C #gain·finish) (Finish 𝓤 H A W mem run)) where
+module _ {M : Type 1} (𝓤 : URA M) (H : Heap 𝓤) (A : Atoms 𝓤) (W : Given 𝓤 H A) (mem : Memory → SProp 𝓤) (run : Routine → Fun 𝓤) (𝓣 : Tables 𝓤 H) (known : Known 𝓤 H A W mem run 𝓣) where
   transfer-walks : Walks 𝓤 H A transfer.ended stayed (WpFn 𝓤 H (𝓣 .C) (𝓣 .Λ) code.function) (transfer.clauses 𝓤 H A mem run)
   transfer-walks = walked 𝓤 H A transfer.ended stayed (transfer.clauses 𝓤 H A mem run) (WpFn 𝓤 H (𝓣 .C) (𝓣 .Λ) code.function) (λ κs. (slice-vals, (uint-vals w64, (uint-vals w64, tt)))) (λ κs. (shr-slice-tells (named 0) (κs .0) T.the-row, (uint-tells w64, (uint-tells w64, tt))))
       (λ κs qs bounds a g are. via 𝓤 _ (fst∗ 𝓤 _ (emp 𝓤))
-      (walk 𝓤 H A W mem run (κs .0) (qs .0) (a .0 .ptr .0) (a .0 .ptr .1) (a .0 .name) (a .0 .now) (a .1 .0) (a .1 .1 .0) 𝓣 (fmOf 𝓤 H (W .laws) 𝓣) known-few known-start known-point known-finish (are .0 .0 .1) (are .1 .0 .1) (are .1 .1 .0 .1)))
+      (walk 𝓤 H A W mem run (κs .0) (qs .0) (a .0 .ptr .0) (a .0 .ptr .1) (a .0 .name) (a .0 .now) (a .1 .0) (a .1 .1 .0) 𝓣 (fmOf 𝓤 H (W .laws) 𝓣) known (are .0 .0 .1) (are .1 .0 .1) (are .1 .1 .0 .1)))
 
   transfer-meets : Meets 𝓤 H A transfer.signature (WpFn 𝓤 H (𝓣 .C) (𝓣 .Λ) code.function) (transfer.spec 𝓤 H A mem run)
   transfer-meets = walk-meets 𝓤 H A transfer.ended stayed W (goes-none-slice 𝓤 H A W 1 (0 ∷ []) tt (plain (λ _. T.the-row)) yes, (goes-none 𝓤 H A W 1 (λ _. usize) yes (λ κs x f. refl), (goes-none 𝓤 H A W 1 (λ _. usize) yes (λ κs x f. refl), tt)))
@@ -364,7 +369,9 @@ photon-transfer-spec 𝓤 H 𝓜 𝓖 𝓡 =
     entered 𝓤 H (tripleOf 𝓤 H (𝓖 .A) transfer.signature (transfer.spec 𝓤 H (𝓖 .A) (𝓜 .mem) (𝓡 .run)))
     (tables 𝓤 H 𝓜 𝓡 code.env .C) (tables 𝓤 H 𝓜 𝓡 code.env .Λ) #gain·photon-transfer code.function (code.unfolded 𝓤 H 𝓜 𝓡)
     (transfer-meets 𝓤 H (𝓖 .A) (givenOf 𝓤 H 𝓜 𝓖) (𝓜 .mem) (𝓡 .run) (tablesOf 𝓤 H 𝓜 (tables 𝓤 H 𝓜 𝓡 code.env))
-    (cited 𝓤 H (Few 𝓤 H (𝓖 .A) (givenOf 𝓤 H 𝓜 𝓖) (𝓜 .mem) (𝓡 .run)) 𝓜 𝓡 code.env #gain·walked few-def.routine code.calls-gain·walked (few-thm.met 𝓤 H 𝓜 𝓖 𝓡))
-    (cited 𝓤 H (Start 𝓤 H (𝓖 .A) (givenOf 𝓤 H 𝓜 𝓖) (𝓜 .mem) (𝓡 .run)) 𝓜 𝓡 code.env #gain·nothing-yet start-def.routine code.calls-gain·nothing-yet (start-thm.met 𝓤 H 𝓜 𝓖 𝓡))
-    (cited 𝓤 H (WithPoint 𝓤 H (𝓖 .A) (givenOf 𝓤 H 𝓜 𝓖) (𝓜 .mem) (𝓡 .run)) 𝓜 𝓡 code.env #gain·with-point with-point-def.routine code.calls-gain·with-point (with-point-thm.met 𝓤 H 𝓜 𝓖 𝓡))
-    (cited 𝓤 H (Finish 𝓤 H (𝓖 .A) (givenOf 𝓤 H 𝓜 𝓖) (𝓜 .mem) (𝓡 .run)) 𝓜 𝓡 code.env #gain·finish finish-def.routine code.calls-gain·finish (finish-thm.met 𝓤 H 𝓜 𝓖 𝓡)))
+    (record {
+      few = cited 𝓤 H (Few 𝓤 H (𝓖 .A) (givenOf 𝓤 H 𝓜 𝓖) (𝓜 .mem) (𝓡 .run)) 𝓜 𝓡 code.env #gain·walked few-def.routine code.calls-gain·walked (few-thm.met 𝓤 H 𝓜 𝓖 𝓡);
+      start = cited 𝓤 H (Start 𝓤 H (𝓖 .A) (givenOf 𝓤 H 𝓜 𝓖) (𝓜 .mem) (𝓡 .run)) 𝓜 𝓡 code.env #gain·nothing-yet start-def.routine code.calls-gain·nothing-yet (start-thm.met 𝓤 H 𝓜 𝓖 𝓡);
+      point = cited 𝓤 H (WithPoint 𝓤 H (𝓖 .A) (givenOf 𝓤 H 𝓜 𝓖) (𝓜 .mem) (𝓡 .run)) 𝓜 𝓡 code.env #gain·with-point with-point-def.routine code.calls-gain·with-point (with-point-thm.met 𝓤 H 𝓜 𝓖 𝓡);
+      finish = cited 𝓤 H (Finish 𝓤 H (𝓖 .A) (givenOf 𝓤 H 𝓜 𝓖) (𝓜 .mem) (𝓡 .run)) 𝓜 𝓡 code.env #gain·finish finish-def.routine code.calls-gain·finish (finish-thm.met 𝓤 H 𝓜 𝓖 𝓡);
+    }))
