@@ -77,8 +77,8 @@
  *    2   the full scale is not in 1..4095
  *    3   another parameter is out of range: black level above full scale, threshold above 4095, Bayer order above 3,
  *        frame count above 100 (or 0 in the stack variance and pattern noise). In photon transfer: the list is empty
- *        or has more than 64 points, a point of it, chosen or not, is out of limits, or the ends are outside the list
- *        or reversed
+ *        or has more than 64 points, a point of it, chosen or not, is out of limits, or first and last are outside
+ *        the list or reversed
  *    4   a lent buffer's length is not exactly the one needed
  *    5   a mask code is above 3
  *    6   a surveyed sample is above full scale; over says how many are

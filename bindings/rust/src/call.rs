@@ -155,7 +155,7 @@ fn of_points(number: u64) -> &'static str {
     match number {
         3 => {
             "the list is empty or has more than 64 points; a point of it, chosen or not, has a mean above 65520 or a \
-             variance above 2^28, in sixteenths; or the ends are outside the list or reversed"
+             variance above 2^28, in sixteenths; or first and last are outside the list or reversed"
         }
         7 => "fewer than 2 points are chosen",
         13 => "all chosen means are equal",

@@ -10,7 +10,7 @@ use std::fmt;
 /// |---|---|
 /// | 1 | a side is odd or not in 2..128 sites |
 /// | 2 | the full scale is not in 1..4095 grey levels |
-/// | 3 | another parameter is out of range: a black level above full scale (dark level, colour ratios, job), a threshold above 4095 grey levels (finding defects), a frame count above 100 (stacks, pattern noise), or 0 (stack variance, pattern noise). In photon transfer: the list is empty or has more than 64 points, a point of it, chosen or not, is out of limits, or the ends are outside the list or reversed |
+/// | 3 | another parameter is out of range: a black level above full scale (dark level, colour ratios, job), a threshold above 4095 grey levels (finding defects), a frame count above 100 (stacks, pattern noise), or 0 (stack variance, pattern noise). In photon transfer: the list is empty or has more than 64 points, a point of it, chosen or not, is out of limits, or first and last are outside the list or reversed |
 /// | 4 | a buffer's length is not exactly the one needed |
 /// | 5 | a mask code is above 3 |
 /// | 6 | a surveyed sample is above full scale: `over` says how many are |
