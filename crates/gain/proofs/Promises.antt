@@ -164,6 +164,12 @@ module _ (c : Curve) (first last : ℕ) (g : Gain) (answer : transferAnswer c fi
       let w = within c first last (passed .list) (passed .ends) in
       (passed .two, omega (arith, w .ends .few, w .ends .inside), w .ends .inside)
 
+  -- limited: the list has at most 64 points, and each of them, chosen or not, is within limits
+  pub limited : (c .count ≤ 64) × ((i : ℕ) → i < c .count → (c .mean i ≤ 65520) × (c .variance i ≤ 268435456))
+  limited =
+      let w = within c first last (passed .list) (passed .ends) in
+      (w .ends .few, λ i l. limits (c .mean i) (c .variance i) (w .fine i l))
+
   -- whole-numbers: numerator and denominator are those of the definition, unreduced, and the denominator is above 0
   pub whole-numbers : (g .numerator ≡ numerator (chosen c first last)) × (g .denominator ≡ denominator (chosen c first last)) × (0 < g .denominator)
   whole-numbers = rw (told .1) (refl, refl, passed .some)
@@ -295,9 +301,10 @@ shifted c d first last up down a =
 same-curve : (c d : Curve) → c .count ≡ d .count → ((i : ℕ) → SameAt c d i) → c ≡ d
 same-curve c d long same = λ t. record { count = long t; mean = λ i. same i .0 t; variance = λ i. same i .1 t }
 
--- exposure: lists that differ in their exposures alone have the same answer
+-- exposure: lists that differ in their exposures alone have the same answer. The fields are written out, so that no other reading of a point meets this
 pub exposure : (points others : List Point) (first last : ℕ)
-    → length points ≡ length others → ((i : ℕ) → i < length points → SameAt (curveOf points) (curveOf others) i)
+    → length points ≡ length others
+    → ((i : ℕ) → i < length points → ((getD points i noPoint) .mean ≡ (getD others i noPoint) .mean) × ((getD points i noPoint) .variance ≡ (getD others i noPoint) .variance))
     → transferAnswer (curveOf points) first last ≡ transferAnswer (curveOf others) first last
 exposure points others first last long same =
     ap (λ (c : Curve). transferAnswer c first last)

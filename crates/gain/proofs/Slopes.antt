@@ -64,7 +64,7 @@ module _ (m : ℕ) (x : ℕ → ℕ) where
       let size : natAbs (a ⊖ b) ≡ a - b = omega (arith, ⊖-size a b, least) in
       ⊖-ge a b least ∙ ap pos (sym size)
 
-  -- four times it is at most (m × b)² where no x is above b, as it is where half of them are 0 and half b
+  -- four times it is at most (m × b)² where no x is above b; it is just that where half of them are 0 and half b
   pub spread-quarter : (b : ℕ) → ((k : ℕ) → k < m → x k ≤ b) → 4 * natAbs (jointSpread m x x) ≤ square (m * b)
   unfolding jointSpread
   spread-quarter b h =

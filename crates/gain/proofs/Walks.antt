@@ -100,25 +100,19 @@ unfolding outOfLimits
 limits x y e = let both = neither (ltb 65520 x) (ltb (2 ^ 28) y) e in (ltb-false 65520 x (both .0), ltb-false 268435456 y (both .1))
 
 -- for more points there is more
-room-grows : (i j : ℕ) (t : Sums) → i ≤ j → j ≤ 64 → Room i t → Room j t
-room-grows i j t l h r = record {
-  few = h;
-  of-x = omega (arith, r .of-x);
-  of-y = omega (arith, r .of-y);
-  of-xy = omega (arith, r .of-xy);
-  of-xx = omega (arith, r .of-xx);
-}
+room-grows : (i j : ℕ) (t : Sums) → i ≤ j → Room i t → Room j t
+room-grows i j t l r =
+    record { of-x = omega (arith, r .of-x); of-y = omega (arith, r .of-y); of-xy = omega (arith, r .of-xy); of-xx = omega (arith, r .of-xx) }
 
 -- one more takes at most what is there for it
-room-more : (i x y : ℕ) (t : Sums) (on : Bool) → i < 64 → x ≤ 65520 → y ≤ 268435456 → Room i t → Room (suc i) (summed t x y on)
-room-more i x y t true l p q r = record {
-  few = l;
+room-more : (i x y : ℕ) (t : Sums) (on : Bool) → x ≤ 65520 → y ≤ 268435456 → Room i t → Room (suc i) (summed t x y on)
+room-more i x y t true p q r = record {
   of-x = omega (arith, r .of-x);
   of-y = omega (arith, r .of-y);
   of-xy = omega (arith, r .of-xy, times-le x y 65520 268435456 p q);
   of-xx = omega (arith, r .of-xx, times-le x x 65520 65520 p p);
 }
-room-more i x y t false l p q r = room-grows i (suc i) t (omega arith) l r
+room-more i x y t false p q r = room-grows i (suc i) t (omega arith) r
 
 -- after i points
 unfoldable pub fitTo : Curve → ℕ → ℕ → ℕ → Fit
@@ -132,19 +126,19 @@ module _ (c : Curve) (first last : ℕ) where
   abbrev out : ℕ → Bool
   out i = outOfLimits (c .mean i) (c .variance i)
 
-  room : (i : ℕ) → i ≤ 64 → Room i (at i .sums)
+  room : (i : ℕ) → Room i (at i .sums)
   unfolding fitTo withPoint
-  room zero h = record { few = h; of-x = omega arith; of-y = omega arith; of-xy = omega arith; of-xx = omega arith }
-  room (suc i) h = by (out i) (limits (c .mean i) (c .variance i)) (room i (omega arith))
+  room zero = record { of-x = omega arith; of-y = omega arith; of-xy = omega arith; of-xx = omega arith }
+  room (suc i) = by (out i) (limits (c .mean i) (c .variance i)) (room i)
     where
       by : (b : Bool) → (b ≡ false → (c .mean i ≤ 65520) × (c .variance i ≤ 268435456)) → Room i (at i .sums)
           → Room (suc i) (cond b (noted (at i)) (taken (at i) (c .mean i) (c .variance i) i (isChosen first last i)) .sums)
-      by true f r = room-grows i (suc i) (at i .sums) (omega arith) h r
-      by false f r = room-more i (c .mean i) (c .variance i) (at i .sums) (isChosen first last i) h (f refl .0) (f refl .1) r
+      by true f r = room-grows i (suc i) (at i .sums) (omega arith) r
+      by false f r = room-more i (c .mean i) (c .variance i) (at i .sums) (isChosen first last i) (f refl .0) (f refl .1) r
 
-  -- for any more of a list that is not too long
+  -- so there is for a whole list that is not too long
   pub room-left : (i : ℕ) → i ≤ 64 → Room 64 (at i .sums)
-  room-left i h = room-grows i 64 (at i .sums) h (le-refl 64) (room i h)
+  room-left i h = room-grows i 64 (at i .sums) h (room i)
 
   -- ---- a point out of limits is noted
   beyond-is : (i : ℕ) → at i .beyond ≡ someTo i out

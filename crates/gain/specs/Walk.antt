@@ -21,9 +21,8 @@ use Rattle.gain.specs.declared.Transfer.the-variants.{Measured, Refused}
 abbrev pub isChosen : ℕ → ℕ → ℕ → Bool
 isChosen first last i = leb first i && leb i last
 
--- sums of i points at most: each is at most i times its greatest term, so that one point more fits
+-- sums of i points at most: each is at most i times its greatest term
 pub record Room (i : ℕ) (t : Sums) : Type 0 where
-  pub few : i ≤ 64
   pub of-x : t .x ≤ 65520 * i
   pub of-y : t .y ≤ 268435456 * i
   pub of-xy : t .xy ≤ 17587891077120 * i
