@@ -125,8 +125,8 @@ fn gather(
 {
     for i in 0..4 * lines {
         let sums = line_sums(vertical, width, height, i / lines, i % lines, mask, frame);
-        counts[i] = sums.count;
-        totals[i] = sums.total;
+        counts[i] = sums.count as u64;
+        totals[i] = sums.total as u64;
     }
 }
 

@@ -14,10 +14,10 @@ pub struct PlaneBox {
     pub right: usize,
 }
 
-// How many sites are surveyed, and the sum of their samples.
+// How many sites are surveyed, and the sum of their samples: those of a plane fit.
 pub struct Sums {
-    pub count: u64,
-    pub total: u64,
+    pub count: u16,
+    pub total: u32,
 }
 
 fn sample_at(code: u8, sample: u16) -> u32
@@ -51,8 +51,8 @@ fn run_sums(
         v += 1;
     }
     Sums {
-        count: count as u64,
-        total: total as u64,
+        count: count as u16,
+        total,
     }
 }
 

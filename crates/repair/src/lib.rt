@@ -92,7 +92,7 @@ fn fill_at(width: usize, height: usize, i: usize, mask: &[u8], frame: &[u16]) ->
         };
     }
     Site {
-        sample: mean(sums.total, sums.count),
+        sample: mean(sums.total as u64, sums.count as u64),
         code: 3,
         filled: 1,
     }

@@ -5,6 +5,7 @@ use mathlib.Core.Bool.{Bool}
 use native.Mathlib.Nat.{mod-lt}
 use native.Mathlib.Omega.{arith}
 use borrow.Author.Count.{below-more}
+use borrow.Author.Needs.{needs}
 use Rattle.laws.proofs.Tables.{Filling, filling-none, filling-more, filling-read}
 use Rattle.window.specs.View.{seen, one}
 use Rattle.lines.specs.Lines.{lineSum}
@@ -43,11 +44,17 @@ line-sums-requires c κs = let start = c .before .before .before .before in
     let below : c .before .loop .i % start .args .lines < start .args .lines = mod-lt _ (start .pre .0) in
     (omega arith, start .pre .2, start .pre .3)
 
+cast-counts : tie.Need-cast-counts Inv-loop μ-loop
+cast-counts c = search needs
+
 mul-counts : tie.Need-mul-counts Inv-loop μ-loop
 mul-counts c = omega arith
 
 element-write-counts : tie.Need-element-write-counts Inv-loop μ-loop
 element-write-counts c = omega arith
+
+cast-totals : tie.Need-cast-totals Inv-loop μ-loop
+cast-totals c = search needs
 
 mul-totals : tie.Need-mul-totals Inv-loop μ-loop
 mul-totals c = omega arith
@@ -62,8 +69,8 @@ loop-less : tie.Need-loop-less Inv-loop μ-loop
 loop-less c = omega arith
 
 loop-again : tie.Need-loop-again Inv-loop μ-loop
-loop-again c = let k = c .before .before .loop in
-    let told = c .line-sums .ensures in (
+loop-again c = let k = c .before .before .before .before .loop in
+    let told = c .before .before .line-sums .ensures in (
       omega arith,
       k .inv .1,
       filling-more _ (k .inv .2) (omega arith) (told .0),
@@ -100,8 +107,10 @@ gather-spec =
     div-line-sums
     rem-line-sums
     line-sums-requires
+    cast-counts
     mul-counts
     element-write-counts
+    cast-totals
     mul-totals
     element-write-totals
     add-i

@@ -76,9 +76,6 @@ loop-again c = let l = c .before .before .before .before .before .loop in
 cast-t19 : tie.Need-cast-t19 Inv-loop μ-loop
 cast-t19 c = search needs
 
-cast-t20 : tie.Need-cast-t20 Inv-loop μ-loop
-cast-t20 c = search needs
-
 returns : tie.Need-returns Inv-loop μ-loop
 returns c = let l = c .before .loop in
     let e : l .v ≡ c .before .before .before .before .args .last = omega arith in
@@ -104,5 +101,4 @@ run-sums-spec =
     loop-less
     loop-again
     cast-t19
-    cast-t20
     returns)

@@ -28,13 +28,20 @@ returns-2 c = let n = c .before .before .near-sums .ensures .0 in
     let e = no-neighbour _ _ _ _ (c .before .before .before .if1 .left) (sym (n .0) ∙ c .if2 .taken) in
     ((kept-sample _ _ _ _ _ _ e, kept-code _ _ _ _ e), (sym e, search needs))
 
+cast-mean : tie.Need-cast-mean
+cast-mean c = search needs
+
+cast-mean-2 : tie.Need-cast-mean-2
+cast-mean-2 c = search needs
+
 mean-requires : tie.Need-mean-requires
-mean-requires c κs = let n = c .before .before .near-sums .ensures .1 in
+mean-requires c κs = let n = c .before .before .before .before .near-sums .ensures .1 in
     omega (arith, n)
 
 returns-3 : tie.Need-returns-3
-returns-3 c = let n = c .before .before .before .near-sums .ensures .0 in
-    let e = neighboured _ _ _ _ (c .before .before .before .before .if1 .left) (λ z. c .before .if2 .left (n .0 ∙ z)) in
+returns-3 c = let tried = c .before .before .before in
+    let n = tried .before .before .near-sums .ensures .0 in
+    let e = neighboured _ _ _ _ (tried .before .before .before .if1 .left) (λ z. tried .if2 .left (n .0 ∙ z)) in
     ((c .mean .ensures ∙ ap₂ meanOf (n .1) (n .0) ∙ new-sample _ _ _ _ _ _ e, new-code _ _ _ _ e), (sym e, search needs))
 
 pub fill-at-spec : {M : Type 1} → statement M
@@ -47,5 +54,7 @@ fill-at-spec =
     returns
     near-sums-requires
     returns-2
+    cast-mean
+    cast-mean-2
     mean-requires
     returns-3)
