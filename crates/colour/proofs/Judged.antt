@@ -42,13 +42,6 @@ module _ {full : ℕ} {shown : Sums} (scale : full ≤ 4095) (lit : Lit full sho
   pub top : shown .total ≤ 4095 * 768
   top = le-trans (lit .low) (times-le full (shown .count) 4095 768 scale (lit .few))
 
--- and a colour's centre can be set over that of Gr
-module _ {full black : ℕ} {colour gr : Sums} (scale : full ≤ 4095) (dark : black ≤ full) (x : Lit full colour) (g : Lit full gr)
-    (bright : black * gr .count < gr .total) where
-  pub fair : (y z : Sums) → y ≡ colour → z ≡ gr
-      → ((black ≤ 4095) × (y .count ≤ 768) × (y .total ≤ 4095 * 768) × (z .count ≤ 768) × (z .total ≤ 4095 * 768)) × (black * z .count < z .total)
-  fair y z p q = rw (p, q) ((omega arith, x .few, top scale x, g .few, top scale g), bright)
-
 -- 7 does not apply
 filled : (shown : Centres) → someEmpty shown ≡ false
     → (0 < shown .r .count) × ((0 < shown .gr .count) × ((0 < shown .b .count) × (0 < shown .gb .count)))

@@ -3,16 +3,14 @@ use Prim.Native.Nat.{ℕ, _*_, _≤_, _<_}
 use mathlib.Core.Bool.{true, false, not}
 use mathlib.Core.Logic.{⊎-elim}
 use mathlib.Core.Path.{_≡_, sym, _∙_}
-use native.Mathlib.Nat.{mul-le-mul-right}
 use native.Mathlib.Omega.{arith}
-use lib.Dec.{ltb, leb, T}
+use lib.Dec.{ltb, leb}
 use lib.IntN.{ℤ, pos, natAbs, _*ℤ_}
-use lib.Signed.{nonNeg}
 use mir.Syntax.{w64}
-use mir.Val.{Fits, SFits, toZ, ofZ}
+use mir.Val.{SFits, toZ, ofZ}
 use borrow.Author.Tests.{ltb-true, lt-ltb, le-ltb, not-false, le-leb, lt-leb}
 use Rattle.laws.proofs.Cases.{lt-or-ge, times-le}
-use Rattle.laws.proofs.Signeds.{⊖-above, ⊖-scale, ⊖-ge}
+use Rattle.laws.proofs.Signeds.{⊖-above}
 use Rattle.laws.proofs.Machine.{Is, laid-is, scale-is, scale-fits}
 use Rattle.plane.specs.declared.Sums.{Sums}
 use Rattle.colour.specs.Colour.{aboveBlack, notAbove, ratio, ratioOf}
@@ -37,17 +35,17 @@ module _ (black : ℕ) (shown : Sums) where
   pub above-black : notAbove (aboveBlack black shown) ≡ false → black * shown .count < shown .total
   above-black e = omega (arith, ltb-true (black * shown .count) (shown .total) (not-false (ltb (black * shown .count) (shown .total)) (sym not-above-is ∙ e)))
 
--- T × n, for sums of a centre and a count n of one
+-- T × n, for sums and a count n in the bits that the code has for them
 module _ (black : ℕ) (shown : Sums) (n : ℕ) (z : ℤ) (is : z ≡ aboveBlack black shown)
-    (dark : black ≤ 4095) (few : shown .count ≤ 768) (low : shown .total ≤ 4095 * 768) (times : n ≤ 768) where
-  up : shown .total * n ≤ 4095 * 768 * 768
-  up = times-le (shown .total) n (4095 * 768) 768 low times
+    (dark : black ≤ 65535) (few : shown .count ≤ 65535) (low : shown .total ≤ 4294967295) (times : n ≤ 65535) where
+  up : shown .total * n ≤ 4294967295 * 65535
+  up = times-le (shown .total) n 4294967295 65535 low times
 
-  least : black * shown .count ≤ 4095 * 768
-  least = times-le black (shown .count) 4095 768 dark few
+  least : black * shown .count ≤ 65535 * 65535
+  least = times-le black (shown .count) 65535 65535 dark few
 
-  down : black * shown .count * n ≤ 4095 * 768 * 768
-  down = times-le (black * shown .count) n (4095 * 768) 768 least times
+  down : black * shown .count * n ≤ 65535 * 65535 * 65535
+  down = times-le (black * shown .count) n (65535 * 65535) 65535 least times
 
   laid : Is (ofZ w64 z) (shown .total) (black * shown .count)
   unfolding aboveBlack
@@ -60,16 +58,8 @@ module _ (black : ℕ) (shown : Sums) (n : ℕ) (z : ℤ) (is : z ≡ aboveBlack
   unfolding aboveBlack
   product-is = scale-is n laid (omega arith) (omega (arith, up)) (omega (arith, down))
 
-  -- and it is its own size where T is above 0
-  pub size-fits : black * shown .count < shown .total → (y : ℤ) → y ≡ aboveBlack black shown *ℤ pos n → T (nonNeg y) × Fits w64 (natAbs y)
-  unfolding aboveBlack
-  size-fits above y e =
-      let order : black * shown .count * n ≤ shown .total * n = mul-le-mul-right n (omega arith) in
-      rw (e, ⊖-scale (shown .total) (black * shown .count) n, ⊖-ge (shown .total * n) (black * shown .count * n) order)
-      (tt, omega (arith, up))
-
 pub ratio-is : (black : ℕ) (colour gr : Sums) (y z : ℤ)
     → y ≡ aboveBlack black colour *ℤ pos (gr .count) → z ≡ aboveBlack black gr *ℤ pos (colour .count)
-    → ratio y (natAbs z) ≡ ratioOf black colour gr
+    → (d : ℕ) → d ≡ natAbs z → ratio y d ≡ ratioOf black colour gr
 unfolding ratioOf
-ratio-is black colour gr y z p q = rw (p, q)
+ratio-is black colour gr y z p q d s = rw (s, p, q)

@@ -1,6 +1,6 @@
 // Colour ratios of the four planes' centres: document 01, "Colour ratios".
 ghost use mathlib.Core.Path.{_≡_};
-ghost use Prim.Native.Nat.{ℕ, _-_, _*_, _/_, _≤_, _<_};
+ghost use Prim.Native.Nat.{ℕ, _-_, _/_};
 ghost use Rattle.plane.specs.Plane.{boxSums};
 ghost use Rattle.colour.specs.Bayer.{mosaicOf, centresOf};
 ghost use Rattle.colour.specs.Centre.{centreOf, tooSmall, someEmpty};
@@ -23,11 +23,11 @@ pub enum Colour {
 }
 
 // The plane that has each colour.
-struct Mosaic {
-    r: usize,
-    gr: usize,
-    b: usize,
-    gb: usize,
+pub struct Mosaic {
+    pub r: usize,
+    pub gr: usize,
+    pub b: usize,
+    pub gb: usize,
 }
 
 // What is seen in the centre of each colour's plane.
@@ -38,7 +38,7 @@ struct Centres {
     gb: Sums,
 }
 
-fn mosaic_of(bayer_order: u64) -> Mosaic
+pub fn mosaic_of(bayer_order: u64) -> Mosaic
     ensures { λ r. ⌜ r ≡ mosaicOf «bayer_order» ⌝ }
 {
     if bayer_order == 0 {
@@ -83,7 +83,7 @@ fn begin(side: usize, long: usize) -> usize
     (side - long) / 2
 }
 
-fn centre(width: usize, height: usize) -> PlaneBox
+pub fn centre(width: usize, height: usize) -> PlaneBox
     ensures { λ r. ⌜ r ≡ centreOf width height ⌝ }
 {
     let top = begin(height / 2, 24);
@@ -104,7 +104,6 @@ fn centres_seen(
     frame: &[u16],
 ) -> Centres
     ensures { λ r. ⌜ r ≡ centresOf «bayer_order» (λ (plane : ℕ). boxSums width height plane (centreOf width height) (now (mask .entry)) (now (frame .entry))) ⌝ }
-    ensures { λ r. ⌜ r .gr .count ≤ 4096 ⌝ }
 {
     let planes = mosaic_of(bayer_order);
     let within = centre(width, height);
@@ -115,7 +114,7 @@ fn centres_seen(
     Centres { r, gr, b, gb }
 }
 
-fn too_small(width: usize, height: usize) -> bool
+pub fn too_small(width: usize, height: usize) -> bool
     ensures { λ r. ⌜ r ≡ tooSmall width height ⌝ }
 {
     width / 2 < 32 || height / 2 < 24
@@ -136,17 +135,34 @@ fn some_empty(seen: Centres) -> bool
     seen.gb.count == 0
 }
 
+// T: the sum of sample minus black level.
+pub fn above_black(black_level: u16, seen: Sums) -> i64
+    ensures { λ r. ⌜ r ≡ aboveBlack «black_level» seen ⌝ }
+{
+    seen.total as i64 - (black_level as u32 * seen.count as u32) as i64
+}
+
 // Whether T is not above 0.
-fn not_above(black_level: u64, seen: Sums) -> bool
-    requires { ⌜ («black_level» ≤ 4095) × (seen .count ≤ 4096) ⌝ }
+pub fn not_above(black_level: u16, seen: Sums) -> bool
     ensures { λ r. ⌜ r ≡ notAbove (aboveBlack «black_level» seen) ⌝ }
 {
-    seen.total <= black_level * seen.count
+    seen.total <= black_level as u32 * seen.count as u32
+}
+
+// A colour over a green.
+pub fn over(black_level: u16, colour: Sums, green: Sums) -> Ratio
+    ensures { λ r. ⌜ r ≡ ratioOf «black_level» colour green ⌝ }
+{
+    let numerator = above_black(black_level, colour) * green.count as i64;
+    let denominator = above_black(black_level, green) * colour.count as i64;
+    Ratio {
+        numerator,
+        denominator: exact::size(denominator),
+    }
 }
 
 // Refusals 9, 7 and 10, in that order.
-fn judge_centres(width: usize, height: usize, black_level: u64, seen: Centres) -> Verdict
-    requires { ⌜ («black_level» ≤ 4095) × (seen .gr .count ≤ 4096) ⌝ }
+fn judge_centres(width: usize, height: usize, black_level: u16, seen: Centres) -> Verdict
     ensures { λ r. ⌜ r ≡ centresVerdict width height «black_level» seen ⌝ }
 {
     let small = verdict::refuse_if(9, 0, too_small(width, height));
@@ -181,28 +197,6 @@ fn judge(
     )
 }
 
-// T: the sum of sample minus black level.
-fn above_black(black_level: u64, seen: Sums) -> i64
-    requires { ⌜ («black_level» ≤ 4095) × (seen .count ≤ 768) × (seen .total ≤ 4095 * 768) ⌝ }
-    ensures { λ r. ⌜ r ≡ aboveBlack «black_level» seen ⌝ }
-{
-    seen.total as i64 - (black_level * seen.count) as i64
-}
-
-// A colour over Gr.
-fn over_gr(black_level: u64, colour: Sums, gr: Sums) -> Ratio
-    requires { ⌜ («black_level» ≤ 4095) × (colour .count ≤ 768) × (colour .total ≤ 4095 * 768) × (gr .count ≤ 768) × (gr .total ≤ 4095 * 768) ⌝ }
-    requires { ⌜ «black_level» * gr .count < gr .total ⌝ }
-    ensures { λ r. ⌜ r ≡ ratioOf «black_level» colour gr ⌝ }
-{
-    let numerator = above_black(black_level, colour) * gr.count as i64;
-    let denominator = above_black(black_level, gr) * colour.count as i64;
-    Ratio {
-        numerator,
-        denominator: denominator as u64,
-    }
-}
-
 pub fn colour_ratios(
     width: usize,
     height: usize,
@@ -228,12 +222,13 @@ pub fn colour_ratios(
         return Colour::Refused(refusal);
     }
     let seen = centres_seen(width, height, bayer_order, mask, frame);
-    match judge_centres(width, height, black_level, seen) {
+    let black = black_level as u16;
+    match judge_centres(width, height, black, seen) {
         Verdict::Refused(refusal) => Colour::Refused(refusal),
         Verdict::Clear => Colour::OverGr(
-            over_gr(black_level, seen.r, seen.gr),
-            over_gr(black_level, seen.b, seen.gr),
-            over_gr(black_level, seen.gb, seen.gr),
+            over(black, seen.r, seen.gr),
+            over(black, seen.b, seen.gr),
+            over(black, seen.gb, seen.gr),
         ),
     }
 }

@@ -13,7 +13,7 @@ use verdict::Refusal;
 use verdict::Verdict;
 
 // Refusals 1 and 2.
-fn shape(width: usize, height: usize, full_scale: u64) -> Verdict
+pub fn shape(width: usize, height: usize, full_scale: u64) -> Verdict
     ensures { λ r. ⌜ r ≡ shapeOf width height «full_scale» ⌝ }
 {
     let sides = verdict::refuse_if(1, 0, window::bad_sides(width, height));

@@ -27,12 +27,10 @@ box-sums-requires-4 c κs = search needs
 
 returns : tie.Need-returns
 returns c = let planes = c .before .before .before .before .before in
-    let a = planes .before .before .before .args in (
-      by-colour (a .bayer-order) (λ (within : PlaneBox) (plane : ℕ). boxSums (a .width) (a .height) plane within (a .mask .now) (a .frame .now)) _ _ _ _ _ _ _
-          (planes .mosaic-of .ensures) (c .before .before .before .before .centre .ensures)
-          (c .before .before .before .box-sums .ensures .0) (c .before .before .box-sums2 .ensures .0) (c .before .box-sums3 .ensures .0) (c .box-sums4 .ensures .0),
-      c .before .before .box-sums2 .ensures .1 .0,
-    )
+    let a = planes .before .before .before .args in
+    by-colour (a .bayer-order) (λ (within : PlaneBox) (plane : ℕ). boxSums (a .width) (a .height) plane within (a .mask .now) (a .frame .now)) _ _ _ _ _ _ _
+    (planes .mosaic-of .ensures) (c .before .before .before .before .centre .ensures)
+    (c .before .before .before .box-sums .ensures .0) (c .before .before .box-sums2 .ensures .0) (c .before .box-sums3 .ensures .0) (c .box-sums4 .ensures .0)
 
 pub centres-seen-spec : {M : Type 1} → statement M
 centres-seen-spec =

@@ -1,11 +1,10 @@
 -- `colour_ratios` is right because it sums the centres only of a frame that 1 to 6 do not refuse, and divides only where they are not refused either.
-use mathlib.Core.Path.{_≡_, ap, sym, _∙_}
+use mathlib.Core.Path.{_≡_, sym, _∙_}
 use borrow.Author.Needs.{needs}
 use native.Mathlib.Omega.{arith}
 use Rattle.verdict.specs.declared.Verdict.the-variants as verdict
 use Rattle.colour.specs.Colour.{lentVerdict, colourVerdict, centresSeen}
-use Rattle.colour.specs.declared.Centres.{Centres}
-use Rattle.colour.proofs.Judged.{fair, lent, accepted, whole, rest, lent-refused, refused-is, accepted-is}
+use Rattle.colour.proofs.Judged.{lent, accepted, whole, rest, lent-refused, refused-is, accepted-is}
 use Rattle.colour.proofs.colour_ratios.Statement.{statement}
 use Rattle.colour.proofs.colour_ratios.Tie as tie
 
@@ -22,14 +21,14 @@ unrefused c = sym (c .before .before .before .judge .ensures) ∙ c .before .enu
 shown : (c : tie.After-centres-seen)
     → c .centres-seen .result
     ≡ centresSeen (Begun c .args .width) (Begun c .args .height) (Begun c .args .bayer-order) (Begun c .args .mask .now) (Begun c .args .frame .now)
-shown c = whole _ _ _ _ _ _ _ (unrefused c) _ (c .centres-seen .ensures .0)
+shown c = whole _ _ _ _ _ _ _ (unrefused c) _ (c .centres-seen .ensures)
 
 -- nothing is refused
 clear : (c : tie.After-enum-told2)
     → colourVerdict (Begun (c .before .before .before) .args .width) (Begun (c .before .before .before) .args .height) (Begun (c .before .before .before) .args .full-scale) (Begun (c .before .before .before) .args .black-level) (Begun (c .before .before .before) .args .bayer-order) (Begun (c .before .before .before) .args .mask .now) (Begun (c .before .before .before) .args .frame .now)
     ≡ verdict.Clear
 clear c = let seen = c .before .before .before in
-    sym (rest _ _ _ _ _ _ _ (unrefused seen) _ (seen .centres-seen .ensures .0)) ∙ sym (c .before .before .judge-centres .ensures) ∙ c .enum-told2 .given .1
+    sym (rest _ _ _ _ _ _ _ (unrefused seen) _ (seen .centres-seen .ensures)) ∙ sym (c .before .before .judge-centres .ensures) ∙ c .enum-told2 .given .1
 
 judge-requires : tie.Need-judge-requires
 judge-requires c κs = search needs
@@ -46,8 +45,11 @@ enum-told c = search needs
 centres-seen-requires : tie.Need-centres-seen-requires
 centres-seen-requires c κs = search needs
 
+cast-black : tie.Need-cast-black
+cast-black c = let l = lent _ _ _ _ _ _ _ (unrefused c) in omega (arith, l .scale, l .dark)
+
 judge-centres-requires : tie.Need-judge-centres-requires
-judge-centres-requires c κs = let l = lent _ _ _ _ _ _ _ (unrefused c) in (omega (arith, l .scale, l .dark), c .centres-seen .ensures .1)
+judge-centres-requires c κs = search needs
 
 enum-known-refusal : tie.Need-enum-known-refusal
 enum-known-refusal c = search needs
@@ -55,29 +57,23 @@ enum-known-refusal c = search needs
 enum-told-2 : tie.Need-enum-told-2
 enum-told-2 c = search needs
 
-over-gr-requires : tie.Need-over-gr-requires
-over-gr-requires c κs = let a = accepted _ _ _ _ _ _ _ (clear c) in
-    let seen = shown (c .before .before .before) in
-    fair (a .of .scale) (a .of .dark) (a .r) (a .gr) (a .bright) _ _ (ap (λ (s : Centres). s .r) seen) (ap (λ (s : Centres). s .gr) seen)
+over-requires : tie.Need-over-requires
+over-requires c κs = search needs
 
-over-gr-requires-2 : tie.Need-over-gr-requires-2
-over-gr-requires-2 c κs = let a = accepted _ _ _ _ _ _ _ (clear (c .before)) in
-    let seen = shown (c .before .before .before .before) in
-    fair (a .of .scale) (a .of .dark) (a .b) (a .gr) (a .bright) _ _ (ap (λ (s : Centres). s .b) seen) (ap (λ (s : Centres). s .gr) seen)
+over-requires-2 : tie.Need-over-requires-2
+over-requires-2 c κs = search needs
 
-over-gr-requires-3 : tie.Need-over-gr-requires-3
-over-gr-requires-3 c κs = let a = accepted _ _ _ _ _ _ _ (clear (c .before .before)) in
-    let seen = shown (c .before .before .before .before .before) in
-    fair (a .of .scale) (a .of .dark) (a .gb) (a .gr) (a .bright) _ _ (ap (λ (s : Centres). s .gb) seen) (ap (λ (s : Centres). s .gr) seen)
+over-requires-3 : tie.Need-over-requires-3
+over-requires-3 c κs = search needs
 
 returns-2 : tie.Need-returns-2
 returns-2 c = let seen = c .before .before .before .before in
     refused-is _ _ _ _ _ _ _ _
-    (sym (rest _ _ _ _ _ _ _ (unrefused seen) _ (seen .centres-seen .ensures .0)) ∙ sym (c .before .before .before .judge-centres .ensures) ∙ c .before .refusal .given .1)
+    (sym (rest _ _ _ _ _ _ _ (unrefused seen) _ (seen .centres-seen .ensures)) ∙ sym (c .before .before .before .judge-centres .ensures) ∙ c .before .refusal .given .1)
 
 returns-3 : tie.Need-returns-3
 returns-3 c = let e = c .before .before .before in
-    accepted-is _ _ _ _ _ _ _ (clear e) _ (shown (e .before .before .before)) _ _ _ (c .before .before .over-gr .ensures) (c .before .over-gr2 .ensures) (c .over-gr3 .ensures)
+    accepted-is _ _ _ _ _ _ _ (clear e) _ (shown (e .before .before .before)) _ _ _ (c .before .before .over .ensures) (c .before .over2 .ensures) (c .over3 .ensures)
 
 pub colour-ratios-spec : {M : Type 1} → statement M
 colour-ratios-spec =
@@ -88,11 +84,12 @@ colour-ratios-spec =
     returns
     enum-told
     centres-seen-requires
+    cast-black
     judge-centres-requires
     enum-known-refusal
     enum-told-2
-    over-gr-requires
-    over-gr-requires-2
-    over-gr-requires-3
+    over-requires
+    over-requires-2
+    over-requires-3
     returns-2
     returns-3)
