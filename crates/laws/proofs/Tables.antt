@@ -1,14 +1,18 @@
 -- The laws of `tabulate`, and the invariants of loops that write a buffer, from its start and from some place on.
 use Prim.Native.Nat.{ℕ, zero, suc, _+_, _-_, _<_, _≤_, suc-le-suc, zero-le}
+use mathlib.Core.Bool.{cond}
 use mathlib.Core.List.{List, [], _∷_, _++_, append-nil}
 use mathlib.Core.Logic.{_⊎_, ⊎-elim}
 use mathlib.Core.Path.{_≡_, refl, sym, ap, _∙_, subst}
 use native.Mathlib.Nat.{not-suc-le-zero, le-of-suc-le-suc, zero-lt-suc, lt-irrefl, eq-or-lt-of-le}
 use native.Mathlib.Numerals.{add-one}
 use native.Mathlib.Omega.{arith}
+use lib.Dec.{eqb}
 use lib.ListN.{length, set, drop, getD, drop-of-length-le, length-set, List·getD-append}
 use lib.Seq.{getD-append-add, getD-drop, getD-set-same, getD-set-other}
+use borrow.Author.Tests.{eqb-true, eqb-false}
 use Rattle.laws.specs.Table.{tabulate}
+use Rattle.laws.proofs.Cases.{true-or-false}
 
 pub length-tabulate : (n : ℕ) (f : ℕ → ℕ) → length (tabulate n f) ≡ n
 unfolding tabulate
@@ -126,3 +130,12 @@ storing-more {f} {d} {l} {at} {i} v r h e =
   where
     last-or-before : (j : ℕ) → j < i + 1 → (j ≡ i) ⊎ (j < i)
     last-or-before j b = eq-or-lt-of-le (omega arith)
+
+-- a list with one element written
+pub tabulate-set : (l : List ℕ) (at v : ℕ) → at < length l → set l at v ≡ tabulate (length l) (λ (k : ℕ). cond (eqb k at) v (getD l k 0))
+tabulate-set l at v h =
+    tabulated (length l) (λ (k : ℕ). cond (eqb k at) v (getD l k 0)) (set l at v) (length-set l at v)
+    (λ k b. ⊎-elim
+    (λ t. let here = eqb-true k at t in rw (t, here) (getD-set-same l at v 0 h))
+    (λ t. rw t (getD-set-other l at k v 0 (eqb-false k at t)))
+    (true-or-false (eqb k at)))
