@@ -84,6 +84,19 @@ zero-terms (suc n) f e k l =
     (λ m. zero-terms n f (omega arith) k m)
     (eq-or-lt-of-le (le-of-suc-le-suc l))
 
+-- a sum of which one term is changed, by y less x, is changed by as much
+pub sum-changed : (n at x y : ℕ) (f g : ℕ → ℕ) → at < n → ((k : ℕ) → k < n → (k ≡ at → ⊥) → f k ≡ g k) → g at + x ≡ f at + y
+    → sumTo n g + x ≡ sumTo n f + y
+unfolding sumTo
+sum-changed zero at x y f g l same there = absurd (omega arith)
+sum-changed (suc n) at x y f g l same there =
+    ⊎-elim
+    (λ e. let before = sum-ext n f g (λ k m. same k (omega arith) (λ p. omega arith)) in
+    let last : g n + x ≡ f n + y = rw e at there in
+    omega arith)
+    (λ m. omega (arith, sum-changed n at x y f g m (λ k b. same k (omega arith)) there, same n (le-refl (suc n)) (λ p. omega arith)))
+    (eq-or-lt-of-le (le-of-suc-le-suc l))
+
 -- the sum of a sum
 pub sum-add : (n : ℕ) (f g : ℕ → ℕ) → sumTo n (λ (k : ℕ). f k + g k) ≡ sumTo n f + sumTo n g
 unfolding sumTo
@@ -229,6 +242,15 @@ module _ (a b : ℕ) where
   in-above B f g h =
       sum-above (b - a) B (λ (k : ℕ). f (a + k)) (λ (k : ℕ). g (a + k)) (λ k l. h (a + k) (omega arith) (omega arith))
 
+  pub in-changed : (at x y : ℕ) (f g : ℕ → ℕ) → a ≤ at → at < b → ((k : ℕ) → a ≤ k → k < b → (k ≡ at → ⊥) → f k ≡ g k) → g at + x ≡ f at + y
+      → sumIn a b g + x ≡ sumIn a b f + y
+  unfolding sumIn
+  in-changed at x y f g low high same there =
+      let e : a + (at - a) ≡ at = omega arith in
+      sum-changed (b - a) (at - a) x y (λ (k : ℕ). f (a + k)) (λ (k : ℕ). g (a + k)) (omega arith)
+      (λ k l other. same (a + k) (omega arith) (omega arith) (λ p. other (omega arith)))
+      (rw e there)
+
 module _ (a b l r : ℕ) (f g : ℕ → ℕ → ℕ) where
   pub box-ext : ((u v : ℕ) → a ≤ u → u < b → l ≤ v → v < r → f u v ≡ g u v) → sumBox a b l r f ≡ sumBox a b l r g
   unfolding sumBox
@@ -255,6 +277,16 @@ module _ (a b l r : ℕ) (f g : ℕ → ℕ → ℕ) where
   box-above B h =
       in-above a b B (λ (u : ℕ). sumIn l r (λ (v : ℕ). f u v)) (λ (u : ℕ). sumIn l r (λ (v : ℕ). g u v))
       (λ u p q. in-above l r B (λ (v : ℕ). f u v) (λ (v : ℕ). g u v) (λ v s t. h u v p q s t))
+
+  -- a box of which the term at row p and column q is changed
+  pub box-changed : (p q x y : ℕ) → a ≤ p → p < b → l ≤ q → q < r
+      → ((u v : ℕ) → a ≤ u → u < b → l ≤ v → v < r → (u ≡ p → v ≡ q → ⊥) → f u v ≡ g u v) → g p q + x ≡ f p q + y
+      → sumBox a b l r g + x ≡ sumBox a b l r f + y
+  unfolding sumBox
+  box-changed p q x y top bottom left right same there =
+      in-changed a b p x y (λ (u : ℕ). sumIn l r (λ (v : ℕ). f u v)) (λ (u : ℕ). sumIn l r (λ (v : ℕ). g u v)) top bottom
+      (λ u i j other. in-ext l r (λ (v : ℕ). f u v) (λ (v : ℕ). g u v) (λ v s t. same u v i j s t (λ e _. other e)))
+      (in-changed l r q x y (λ (v : ℕ). f p v) (λ (v : ℕ). g p v) left right (λ v s t other. same p v top bottom s t (λ _ e. other e)) there)
 
 -- a box by its columns
 pub box-turned : (a b l r : ℕ) (g : ℕ → ℕ → ℕ) → sumBox a b l r g ≡ sumBox l r a b (λ (v u : ℕ). g u v)

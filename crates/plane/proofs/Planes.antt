@@ -2,13 +2,13 @@
 use Prim.Native.Nat.{ℕ, suc, _+_, _-_, _*_, _/_, _%_, _<_, _≤_, min}
 use mathlib.Core.List.{List}
 use mathlib.Core.Path.{_≡_, sym, ap, ap₂, _∙_}
-use native.Mathlib.Nat.{le-trans, suc-mul, add-mul, mul-comm, mul-assoc, mul-le-mul, mul-le-mul-right, div-add-mod'}
+use native.Mathlib.Nat.{le-trans, suc-mul, add-mul, mul-comm, mul-assoc, mul-le-mul, mul-le-mul-right, div-add-mod', add-comm}
 use native.Mathlib.Omega.{arith}
 use lib.Arith.{digits-div, digits-mod}
 use lib.ListN.{length, getD}
 use borrow.Author.Tests.{eq-eqb, ne-eqb}
 use Rattle.laws.specs.Sum.{sumBox}
-use Rattle.laws.proofs.Sums.{Shifted, box-ext, box-scaled, box-le, box-shift, box-cut, box-turned}
+use Rattle.laws.proofs.Sums.{Shifted, box-ext, box-scaled, box-le, box-shift, box-changed, box-cut, box-turned}
 use Rattle.window.specs.Shape.{sitesOf}
 use Rattle.window.specs.Walk.{walked}
 use Rattle.window.specs.View.{seen, one}
@@ -128,6 +128,32 @@ module _ (w h plane : ℕ) (within : PlaneBox) where
       → sumBox top bottom left right (λ (u v : ℕ). view (siteAt w plane u v)) ≡ boxSum w h plane within view
   unfolding boxSum
   box-inner view top bottom left right b r t l = rw (t, l, b, r) (box-cut _ _ _ _ _)
+
+-- sums of views that agree at every site but one
+module _ (w h plane : ℕ) (within : PlaneBox) (site : ℕ) (f g : ℕ → ℕ) (same : (i : ℕ) → i < h * w → (i ≡ site → ⊥) → f i ≡ g i) where
+  -- differ by what is seen there, where it lies in the box
+  pub box-changed-in : planeOf w site ≡ plane → within .top ≤ planeRow w site → planeRow w site < min (within .bottom) (h / 2)
+      → within .left ≤ planeColumn w site → planeColumn w site < min (within .right) (w / 2)
+      → boxSum w h plane within g + f site ≡ boxSum w h plane within f + g site
+  unfolding boxSum
+  box-changed-in of top bottom left right =
+      let there : siteAt w plane (planeRow w site) (planeColumn w site) ≡ site = rw (← of) (site-at w site) in
+      box-changed _ _ _ _ (λ (u v : ℕ). f (siteAt w plane u v)) (λ (u v : ℕ). g (siteAt w plane u v)) (planeRow w site) (planeColumn w site) (f site) (g site) top bottom left right
+      (λ u v p q s t other. same (siteAt w plane u v) (site-in w h plane u (omega arith) v (omega arith))
+      (λ e. other (sym (plane-row w plane u v (omega arith)) ∙ ap (planeRow w) e) (sym (plane-column w plane u v (omega arith)) ∙ ap (planeColumn w) e)))
+      (rw there (add-comm (g site) (f site)))
+
+  -- and are one, where it does not
+  pub box-changed-out : plane < 4
+      → (planeOf w site ≡ plane → within .top ≤ planeRow w site → planeRow w site < within .bottom → within .left ≤ planeColumn w site → planeColumn w site < within .right → ⊥)
+      → boxSum w h plane within g ≡ boxSum w h plane within f
+  unfolding boxSum
+  box-changed-out few out =
+      box-ext _ _ _ _ (λ (u v : ℕ). g (siteAt w plane u v)) (λ (u v : ℕ). f (siteAt w plane u v))
+      (λ u v p q s t. sym (same (siteAt w plane u v) (site-in w h plane u (omega arith) v (omega arith))
+      (λ e. let row : planeRow w site ≡ u = rw (← e) (plane-row w plane u v (omega arith)) in
+      let column : planeColumn w site ≡ v = rw (← e) (plane-column w plane u v (omega arith)) in
+      out (rw (← e) (plane-of w plane u v (omega arith) few)) (omega arith) (omega arith) (omega arith) (omega arith))))
 
 -- samples of at most B: what is seen of them is at most B for each site counted
 pub seen-scaled : (mask frame : List ℕ) (B : ℕ) → ((i : ℕ) → getD frame i 0 ≤ B) → (i : ℕ) → seen mask frame i ≤ B * one mask i
