@@ -1,0 +1,4 @@
+pub mod Areas
+pub mod Table
+pub mod Recode
+pub mod Walk
