@@ -1,0 +1,3 @@
+pub mod Shade
+pub mod Judge
+pub mod Walk
