@@ -297,6 +297,32 @@ fn judge_blocks(
     }
 }
 
+// The numbers of a call.
+fn asked_of(width: usize, height: usize, full: u64, black: u64, order: u64, limit: u64) -> Asked
+    ensures { λ r. ⌜ r ≡ asked width height full black order limit ⌝ }
+{
+    Asked {
+        width,
+        height,
+        full,
+        black,
+        order,
+        limit,
+    }
+}
+
+// The lengths of its four written buffers.
+fn lengths_of(numerators: &[u64], denominators: &[u64], refusals: &[u8], fails: &[u8]) -> Lengths
+    ensures { λ r. ⌜ r ≡ lengths (length (now (numerators .entry))) (length (now (denominators .entry))) (length (now (refusals .entry))) (length (now (fails .entry))) ⌝ }
+{
+    Lengths {
+        numerators: numerators.len(),
+        denominators: denominators.len(),
+        refusals: refusals.len(),
+        fails: fails.len(),
+    }
+}
+
 // Judges every block of a table beside the centre.
 pub fn shading_judge(
     width: usize,
@@ -319,20 +345,8 @@ pub fn shading_judge(
     ensures refusals { λ r. ⌜ now (refusals .exit) ≡ judgeRefusals (asked width height «full_scale» «black_level» «bayer_order» limit) (lengths (length (now (numerators .entry))) (length (now (denominators .entry))) (length (now (refusals .entry))) (length (now (fails .entry)))) (now (totals .entry)) (now (counts .entry)) (now (refusals .entry)) ⌝ }
     ensures fails { λ r. ⌜ now (fails .exit) ≡ judgeFails (asked width height «full_scale» «black_level» «bayer_order» limit) (lengths (length (now (numerators .entry))) (length (now (denominators .entry))) (length (now (refusals .entry))) (length (now (fails .entry)))) (now (totals .entry)) (now (counts .entry)) (now (fails .entry)) ⌝ }
 {
-    let asked = Asked {
-        width,
-        height,
-        full: full_scale,
-        black: black_level,
-        order: bayer_order,
-        limit,
-    };
-    let long = Lengths {
-        numerators: numerators.len(),
-        denominators: denominators.len(),
-        refusals: refusals.len(),
-        fails: fails.len(),
-    };
+    let asked = asked_of(width, height, full_scale, black_level, bayer_order, limit);
+    let long = lengths_of(numerators, denominators, refusals, fails);
     match judge(asked, long, totals, counts) {
         Verdict::Refused(refusal) => Judged::Refused(refusal),
         Verdict::Clear => {
