@@ -2,11 +2,12 @@
 use Prim.Native.Nat.{ℕ, _≤_, _<_}
 use mathlib.Core.Bool.{Bool, true, false, cond, _&&_, _||_}
 use mathlib.Core.List.{List, [], _∷_}
-use mathlib.Core.Path.{_≡_, refl}
+use mathlib.Core.Logic.{_⊎_, inl, inr}
+use mathlib.Core.Path.{_≡_, refl, ap}
 use native.Mathlib.Omega.{arith}
 use lib.Dec.{ltb, leb}
 use lib.ListN.{length}
-use borrow.Author.Tests.{ltb-false, le-ltb, leb-false, lt-leb}
+use borrow.Author.Tests.{eqb-true, ltb-false, le-ltb, leb-false, lt-leb}
 use Rattle.laws.specs.Table.{held}
 use Rattle.laws.proofs.Cases.{neither}
 use Rattle.verdict.specs.Verdict.{refusalOver}
@@ -115,6 +116,16 @@ low-samples full old new sample = by (surveyed old) (surveyed new)
     by : (a b : Bool) → cond a sample 0 ≤ full → cond b sample 0 ≤ full → ((a || b) && ltb full sample) ≡ false
     by true b p q = le-ltb full sample p
     by false true p q = le-ltb full sample q
+    by false false p q = refl
+
+-- two samples that are one where the site counts are over full scale alike
+pub over-same : (full old new x y : ℕ) → ((old ≡ 0) ⊎ (new ≡ 0) → x ≡ y) → overEither full old new x ≡ overEither full old new y
+unfolding overEither
+over-same full old new x y same = by (surveyed old) (surveyed new) (λ t. same (inl (eqb-true old 0 t))) (λ t. same (inr (eqb-true new 0 t)))
+  where
+    by : (a b : Bool) → (a ≡ true → x ≡ y) → (b ≡ true → x ≡ y) → ((a || b) && ltb full x) ≡ ((a || b) && ltb full y)
+    by true b p q = ap (ltb full) (p refl)
+    by false true p q = ap (ltb full) (q refl)
     by false false p q = refl
 
 module _ (w h full site code : ℕ) (mask frame : List ℕ) (totals counts : ℕ) where

@@ -2,4 +2,8 @@ pub mod Areas
 pub mod Judged
 pub mod Sites
 pub mod Entries
+pub mod Amends
 pub mod Told
+pub mod Afresh
+pub mod Back
+pub mod Promises

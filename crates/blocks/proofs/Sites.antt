@@ -1,19 +1,17 @@
 -- One site's share of an area's sum, and how large a sum can be.
-use Prim.Native.Nat.{ℕ, _+_, _-_, _*_, _^_, _/_, _%_, _≤_, _<_, min}
-use mathlib.Core.Bool.{Bool, true, false, cond, _&&_}
-use mathlib.Core.List.{List}
+use Prim.Native.Nat.{ℕ, _+_, _*_, _^_, _/_, _%_, _≤_, _<_}
+use mathlib.Core.Bool.{true, false, _&&_}
 use mathlib.Core.Logic.{_⊎_, ⊎-elim}
-use mathlib.Core.Path.{_≡_, refl, sym, ap, _∙_}
-use native.Mathlib.Nat.{le-trans, mul-comm, mod-lt, div-lt-iff-lt-mul, mul-le-mul}
+use mathlib.Core.Path.{_≡_}
+use native.Mathlib.Nat.{mod-lt, div-lt-iff-lt-mul}
 use native.Mathlib.Omega.{arith}
 use lib.Dec.{eqb, leb, ltb}
 use borrow.Author.Tests.{eqb-true, eq-eqb, leb-true, le-leb, ltb-true, lt-ltb}
 use Rattle.laws.proofs.Cases.{and-true, true-or-false, lt-or-ge, not-both}
-use Rattle.window.specs.Shape.{badSides}
 use Rattle.window.proofs.Sides.{Sides}
-use Rattle.plane.specs.Plane.{planeOf, planeRow, planeColumn, boxSum}
+use Rattle.plane.specs.Plane.{planeOf, planeRow, planeColumn}
 use Rattle.plane.specs.declared.PlaneBox.{PlaneBox}
-use Rattle.plane.proofs.Planes.{box-same, box-few, box-at-most, box-changed-in, box-changed-out}
+use Rattle.plane.proofs.Planes.{box-few, box-at-most, box-changed-in, box-changed-out}
 use Rattle.colour.specs.Centre.{centreOf}
 use Rattle.blocks.specs.Areas.{blocksAcross, blocksDown, blocksOf, blockOf, areasOf, areaOf, areaSites, entriesOf, entryPlane, entryArea, inBox, liesIn}
 use Rattle.blocks.specs.Table.{entrySum}
@@ -118,11 +116,11 @@ module _ (w h e : ℕ) where
       omega (arith, entry-at-most 4095 ones f (λ i l. omega (arith, low i l)), entry-few ones (λ i. omega arith), sites-most)
 
 -- what is left over at the right and lower edge, and is not in the centre, lies in no area
-pub left-over : (w h site : ℕ)
+pub in-no-area : (w h site : ℕ)
     → (12 * blocksDown h ≤ planeRow w site) ⊎ (16 * blocksAcross w ≤ planeColumn w site)
     → (centreOf w h .top ≤ planeRow w site → planeRow w site < centreOf w h .bottom → centreOf w h .left ≤ planeColumn w site → planeColumn w site < centreOf w h .right → ⊥)
     → (e : ℕ) → liesIn w h site e ≡ false
-left-over w h site past outside e =
+in-no-area w h site past outside e =
     lies-not w h site e
     (λ l. ⊎-elim (in-block l) (in-centre l) (lt-or-ge (entryArea w h e) (blocksOf w h)))
   where

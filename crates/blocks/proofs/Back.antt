@@ -1,0 +1,74 @@
+-- A recode that is undone: the way back is accepted and restores mask and table.
+use Prim.Native.Nat.{ℕ}
+use mathlib.Core.List.{List}
+use mathlib.Core.Path.{_≡_, ap, _∙_}
+use native.Mathlib.Nat.{le-trans}
+use native.Mathlib.Omega.{arith}
+use lib.ListN.{length}
+use Rattle.laws.specs.Table.{held}
+use Rattle.verdict.specs.declared.Verdict.the-variants as verdict
+use Rattle.window.specs.View.{seenAt}
+use Rattle.window.proofs.Sides.{scale}
+use Rattle.window.proofs.Views.{seen-le}
+use Rattle.blocks.specs.Recode.{recoded, amended, recodeVerdict}
+use Rattle.blocks.proofs.Judged.{Recoding, recoding-clear, recode-done}
+use Rattle.blocks.proofs.Amends.{Words, amended-long, amended-back, recoded-long, recoded-here, recoded-back}
+use Rattle.blocks.proofs.Afresh.{mask-after, totals-after, counts-after, Makes, made}
+
+module _ (w h full site code : ℕ) (mask frame totals counts : List ℕ) (a : Recoding w h full site code mask frame (length totals) (length counts))
+    (total-words : Words totals) (count-words : Words counts) where
+  abbrev M : List ℕ
+  M = recoded site code mask
+
+  abbrev T : List ℕ
+  T = amended w h site (seenAt (held mask site) (held frame site)) (seenAt code (held frame site)) totals
+
+  abbrev C : List ℕ
+  C = amended w h site (seenAt (held mask site) 1) (seenAt code 1) counts
+
+  here : held M site ≡ code
+  here = recoded-here site code mask (omega (arith, a .inside, a .masked))
+
+  clear : recodeVerdict w h full site (held mask site) M frame (length T) (length C) ≡ verdict.Clear
+  clear =
+      recoding-clear w h full site (held mask site) M frame (length T) (length C)
+      (record {
+        legal = a .legal;
+        scaled = a .scaled;
+        inside = a .inside;
+        masked = recoded-long site code mask ∙ a .masked;
+        framed = a .framed;
+        totalled = amended-long w h site _ _ totals ∙ a .totalled;
+        counted = amended-long w h site _ _ counts ∙ a .counted;
+        old-code = rw here (a .new-code);
+        new-code = a .old-code;
+        old-low = rw here (a .new-low);
+        new-low = a .old-low;
+        large = a .large;
+      })
+
+  pub back : Makes w h full site (held mask site) frame (recoded site code mask)
+      (amended w h site (seenAt (held mask site) (held frame site)) (seenAt code (held frame site)) totals)
+      (amended w h site (seenAt (held mask site) 1) (seenAt code 1) counts)
+      mask totals counts
+  back =
+      let high = scale full (a .scaled) .high in
+      record {
+        accepted = recode-done w h full site (held mask site) M frame (length T) (length C) clear;
+        makes-mask = mask-after w h full site (held mask site) M frame T C clear ∙ recoded-back site code mask (omega (arith, a .inside, a .masked));
+        makes-totals =
+            totals-after w h full site (held mask site) M frame T C clear
+            ∙ ap (λ (c : ℕ). amended w h site (seenAt c (held frame site)) (seenAt (held mask site) (held frame site)) T) here
+            ∙ amended-back w h site _ _ totals (le-trans (a .old-low) high) (le-trans (a .new-low) high) total-words;
+        makes-counts =
+            counts-after w h full site (held mask site) M frame T C clear
+            ∙ ap (λ (c : ℕ). amended w h site (seenAt c 1) (seenAt (held mask site) 1) C) here
+            ∙ amended-back w h site _ _ counts (seen-le (held mask site) 1 4095 (omega arith)) (seen-le code 1 4095 (omega arith)) count-words;
+      }
+
+pub undone : (w h full site code : ℕ) (frame mask totals counts mask′ totals′ counts′ : List ℕ)
+    → Makes w h full site code frame mask totals counts mask′ totals′ counts′ → Words totals → Words counts
+    → Makes w h full site (held mask site) frame mask′ totals′ counts′ mask totals counts
+undone w h full site code frame mask totals counts mask′ totals′ counts′ m t c =
+    let is = made m in
+    rw (is .mask-is, is .totals-is, is .counts-is) (back w h full site code mask frame totals counts (is .of) t c)
