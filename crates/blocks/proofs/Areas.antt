@@ -5,13 +5,13 @@ use mathlib.Core.Logic.{⊎-elim}
 use mathlib.Core.Path.{_≡_, ap, ap₂, _∙_}
 use native.Mathlib.Nat.{zero-mul, mul-comm, mod-lt, div-lt-iff-lt-mul}
 use native.Mathlib.Omega.{arith}
+use lib.Arith.{digits-div, digits-mod, digits-lt}
 use borrow.Author.Tests.{lt-ltb, le-ltb}
-use Rattle.laws.proofs.Cases.{true-or-false, times-le}
+use Rattle.laws.proofs.Cases.{true-or-false, lt-or-ge, times-le}
 use Rattle.window.specs.Shape.{badSides}
 use Rattle.window.proofs.Sides.{sides}
-use Rattle.plane.specs.declared.PlaneBox.{PlaneBox}
 use Rattle.colour.specs.Centre.{centreOf}
-use Rattle.blocks.specs.Areas.{blocksAcross, blocksDown, blocksOf, blockOf, areaOf, boxSites, areaSites}
+use Rattle.blocks.specs.Areas.{blocksAcross, blocksDown, blocksOf, blockOf, areaOf, boxSites, areaSites, entriesOf, entryAt, entryPlane, entryArea}
 
 module _ (w h : ℕ) where
   pub blocks-are : badSides w h ≡ false → blocksOf w h ≡ blocksAcross w * blocksDown h
@@ -85,3 +85,19 @@ module _ (w h : ℕ) where
 
       wide : centreOf w h .right - centreOf w h .left ≡ 32
       wide = omega arith
+
+  -- so no area has more
+  pub sites-few : (k : ℕ) → areaSites w h k ≤ 768
+  sites-few k =
+      ⊎-elim (λ l. omega (arith, block-sites k l)) (λ g. omega (arith, centre-sites k g)) (lt-or-ge k (blocksOf w h))
+
+-- area k of a plane has an entry of the table, which is of that plane and area
+module _ (w h : ℕ) (plane k : ℕ) (last : k ≤ blocksOf w h) where
+  pub entry-below : plane < 4 → entryAt w h plane k < entriesOf w h
+  entry-below few = digits-lt few (omega arith)
+
+  pub entry-plane : entryPlane w h (entryAt w h plane k) ≡ plane
+  entry-plane = digits-div plane (omega arith)
+
+  pub entry-area : entryArea w h (entryAt w h plane k) ≡ k
+  entry-area = digits-mod plane (omega arith)

@@ -3,7 +3,7 @@ use Prim.Native.Nat.{ℕ, _+_, _*_, _/_, _%_, _≤_, _<_}
 use mathlib.Core.Bool.{Bool, true, false, cond, _&&_}
 use mathlib.Core.List.{List}
 use mathlib.Core.Logic.{⊎-elim}
-use mathlib.Core.Path.{_≡_, refl, sym, ap, ap₂, _∙_}
+use mathlib.Core.Path.{_≡_, refl, sym, ap, _∙_}
 use native.Mathlib.Nat.{lt-irrefl, mod-lt, div-add-mod', div-lt-iff-lt-mul, mul-comm}
 use native.Mathlib.Omega.{arith}
 use lib.Arith.{digits-div, digits-mod, digits-lt}
@@ -11,7 +11,7 @@ use lib.Dec.{eqb, ltb}
 use lib.ListN.{length, set}
 use borrow.Author.Tests.{eqb-true, eq-eqb, ne-eqb, ltb-true, lt-ltb}
 use Rattle.laws.specs.Table.{held, tabulate}
-use Rattle.laws.proofs.Cases.{true-or-false, not-both, lt-or-ge, and-true}
+use Rattle.laws.proofs.Cases.{true-or-false, lt-or-ge, and-true}
 use Rattle.laws.proofs.Tables.{tabulated, length-tabulate, getD-tabulate, tabulate-ext, tabulate-set}
 use Rattle.window.specs.Shape.{badSides}
 use Rattle.plane.specs.Plane.{planeOf, planeRow, planeColumn}

@@ -15,7 +15,7 @@ use Rattle.plane.proofs.Planes.{box-few, box-at-most, box-changed-in, box-chang
 use Rattle.colour.specs.Centre.{centreOf}
 use Rattle.blocks.specs.Areas.{blocksAcross, blocksDown, blocksOf, blockOf, areasOf, areaOf, areaSites, entriesOf, entryPlane, entryArea, inBox, liesIn}
 use Rattle.blocks.specs.Table.{entrySum}
-use Rattle.blocks.proofs.Areas.{area-block, block-in, block-sites, area-centre, centre-sites}
+use Rattle.blocks.proofs.Areas.{area-block, block-in, area-centre, sites-few}
 
 -- a site lies in the area of entry e
 pub record Lies (w h site e : ℕ) : Type 0 where
@@ -91,15 +91,7 @@ module _ (w h site : ℕ) (legal : Sides w h) (inside : site < h * w) (f g : ℕ
       (λ p a b l r. not-both (lies-in w h site e (record { plane = p; top = a; bottom = b; left = l; right = r })) t)
 
 module _ (w h e : ℕ) where
-  -- an area has at most 768 sites
-  pub sites-most : areaSites w h (entryArea w h e) ≤ 768
-  sites-most =
-      ⊎-elim
-      (λ l. omega (arith, block-sites w h (entryArea w h e) l))
-      (λ g. omega (arith, centre-sites w h (entryArea w h e) g))
-      (lt-or-ge (entryArea w h e) (blocksOf w h))
-
-  -- no more of them are counted
+  -- no more sites of an area are counted than it has
   pub entry-few : (f : ℕ → ℕ) → ((i : ℕ) → f i ≤ 1) → entrySum w h f e ≤ areaSites w h (entryArea w h e)
   unfolding entrySum areaSites
   entry-few f low = box-few w h (entryPlane w h e) (areaOf w h (entryArea w h e)) f low
@@ -113,7 +105,7 @@ module _ (w h e : ℕ) where
   pub entry-fits : (f : ℕ → ℕ) → ((i : ℕ) → i < h * w → f i ≤ 4095) → entrySum w h f e < 2 ^ 32
   entry-fits f low =
       let ones : ℕ → ℕ = λ i. 1 in
-      omega (arith, entry-at-most 4095 ones f (λ i l. omega (arith, low i l)), entry-few ones (λ i. omega arith), sites-most)
+      omega (arith, entry-at-most 4095 ones f (λ i l. omega (arith, low i l)), entry-few ones (λ i. omega arith), sites-few w h (entryArea w h e))
 
 -- what is left over at the right and lower edge, and is not in the centre, lies in no area
 pub in-no-area : (w h site : ℕ)

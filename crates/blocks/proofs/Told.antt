@@ -1,7 +1,7 @@
 -- What the code sees of an entry, and what the verdict makes of answers and buffers.
 use Prim.Native.Nat.{ℕ, _/_, _%_}
 use mathlib.Core.List.{List}
-use mathlib.Core.Path.{_≡_, refl, sym, ap, _∙_}
+use mathlib.Core.Path.{_≡_, refl, ap, _∙_}
 use lib.ListN.{length}
 use Rattle.laws.specs.Table.{held}
 use Rattle.verdict.specs.declared.Refusal.{Refusal}

@@ -1,8 +1,9 @@
 -- The laws of planes, and of what is seen in a box of a plane's coordinates.
 use Prim.Native.Nat.{ℕ, suc, _+_, _-_, _*_, _/_, _%_, _<_, _≤_, min}
-use mathlib.Core.List.{List}
+use mathlib.Core.Bool.{true}
+use mathlib.Core.List.{List, []}
 use mathlib.Core.Path.{_≡_, sym, ap, ap₂, _∙_}
-use native.Mathlib.Nat.{le-trans, suc-mul, add-mul, mul-comm, mul-assoc, mul-le-mul, mul-le-mul-right, div-add-mod', add-comm}
+use native.Mathlib.Nat.{le-trans, suc-mul, add-mul, mul-comm, mul-assoc, mul-le-mul, mul-le-mul-right, div-add-mod', add-comm, zero-mul}
 use native.Mathlib.Omega.{arith}
 use lib.Arith.{digits-div, digits-mod}
 use lib.ListN.{length, getD}
@@ -11,9 +12,9 @@ use Rattle.laws.specs.Sum.{sumBox}
 use Rattle.laws.proofs.Sums.{Shifted, box-ext, box-scaled, box-le, box-shift, box-changed, box-cut, box-turned}
 use Rattle.window.specs.Shape.{sitesOf}
 use Rattle.window.specs.Walk.{walked}
-use Rattle.window.specs.View.{seen, one}
+use Rattle.window.specs.View.{surveyed, seen, one}
 use Rattle.window.proofs.Sides.{Sides}
-use Rattle.window.proofs.Views.{seen-is, seen-le, seen-counted}
+use Rattle.window.proofs.Views.{seen-is, seen-le, seen-counted, seen-shift}
 use Rattle.window.proofs.Walks.{walked-whole}
 use Rattle.plane.specs.Plane.{rowParity, columnParity, planeOf, planeRow, planeColumn, siteAt, boxSum, sums, boxSums}
 use Rattle.plane.specs.declared.PlaneBox.{PlaneBox}
@@ -161,6 +162,18 @@ seen-scaled mask frame B low i =
     seen-counted mask frame B i (rw seen-is (seen-le (getD mask i 0) (getD frame i 0) B (low i)))
 
 module _ (w h plane : ℕ) (within : PlaneBox) (mask frame : List ℕ) where
+  -- where every surveyed sample of the plane is s, they add up to s for each that is counted
+  pub box-level : (s : ℕ) → ((u v : ℕ) → u < h / 2 → v < w / 2 → surveyed (getD mask (siteAt w plane u v) 0) ≡ true → getD frame (siteAt w plane u v) 0 ≡ s)
+      → boxSum w h plane within (seen mask frame) ≡ s * boxSum w h plane within (one mask)
+  box-level s same =
+      omega (
+        arith,
+        box-shifted w h plane within s 0 (one mask) (seen mask []) (seen mask frame)
+            (λ u v p q. seen-shift mask [] frame s 0 (siteAt w plane u v) (λ t. omega (arith, same u v p q t))),
+        box-at-most w h plane within 0 (one mask) (seen mask []) (λ i _. seen-scaled mask [] 0 (λ k. omega arith) i),
+        zero-mul (boxSum w h plane within (one mask)),
+      )
+
   -- buffers that have the window's sites show what is in the box
   pub sums-whole : (min (walked w h (length mask)) (walked w h (length frame)) ≡ 0 → ⊥)
       → boxSums w h plane within mask frame ≡ sums (boxSum w h plane within (one mask)) (boxSum w h plane within (seen mask frame))

@@ -1,122 +1,122 @@
--- The entries of a table: where each stands, what one that 11 lets pass can be, and 11 of one entry more.
-use Prim.Native.Nat.{ℕ, _+_, _*_, _%_, _≤_, _<_}
-use mathlib.Core.Bool.{Bool, true, false, cond, _||_}
+-- The entries of a table: where each stands, what a ratio reads of them, and what a window leaves in them.
+use Prim.Native.Nat.{ℕ, _+_, _*_, _≤_, _<_}
+use mathlib.Core.Bool.{Bool, true, false, cond}
 use mathlib.Core.List.{List}
-use mathlib.Core.Logic.{⊎-elim}
-use mathlib.Core.Path.{_≡_, sym, ap, _∙_}
+use mathlib.Core.Path.{_≡_, refl, sym, ap, ap₂, _∙_}
+use native.Mathlib.Nat.{le-trans}
 use native.Mathlib.Omega.{arith}
-use lib.Arith.{digits-lt, digits-mod}
-use lib.Dec.{eqb, ltb}
-use lib.ListN.{length}
-use borrow.Author.Tests.{ltb-false}
-use Rattle.laws.specs.First.{someTo}
+use lib.Arith.{digits-div, digits-mod}
+use lib.Dec.{eqb}
+use lib.ListN.{getD}
 use Rattle.laws.specs.Table.{held}
-use Rattle.laws.proofs.Cases.{lt-or-ge, neither, times-le}
-use Rattle.laws.proofs.Firsts.{first-nowhere, some-none, some-more}
-use Rattle.plane.specs.Plane.{sums}
-use Rattle.plane.specs.declared.Sums.{Sums}
+use Rattle.laws.proofs.Cases.{times-le}
+use Rattle.laws.proofs.Tables.{getD-tabulate}
+use Rattle.verdict.specs.declared.Verdict.the-variants as verdict
+use Rattle.window.specs.Shape.{sitesOf}
+use Rattle.window.specs.View.{surveyed, seen, one}
+use Rattle.window.proofs.Sides.{sides}
+use Rattle.plane.specs.Plane.{planeOf, siteAt}
+use Rattle.plane.proofs.Planes.{site-in, plane-of, box-level}
 use Rattle.colour.specs.Bayer.{mosaic, mosaicOf}
-use Rattle.blocks.specs.Areas.{blocksOf, areasOf, areaSites, entriesOf, entryAt, entryArea}
-use Rattle.blocks.proofs.Areas.{block-sites, centre-sites}
-use Rattle.shading.specs.Shade.{tint}
-use Rattle.shading.specs.Judge.{impossible, impossibleAt, impossibleIn, planes, planesOf, tintOf}
-use Rattle.shading.specs.Walk.{Whole, Possible}
+use Rattle.blocks.specs.Areas.{blocksOf, areaSites, areaOf, entriesOf, entryAt, entryPlane, entryArea}
+use Rattle.blocks.specs.Table.{entrySum}
+use Rattle.blocks.proofs.Areas.{block-sites, centre-sites, entry-below, entry-area}
+use Rattle.blocks.proofs.Sites.{plane-few}
+use Rattle.blocks.proofs.Afresh.{TableOf, table-summed}
+use Rattle.shading.specs.Shade.{tint, shadeOf}
+use Rattle.shading.specs.Judge.{impossibleIn, planesOf, entryOf, tintOf, shadeIn, shadeAt}
+use Rattle.shading.specs.Walk.{Possible}
 use Rattle.shading.specs.declared.Asked.{Asked}
+use Rattle.shading.specs.declared.Lengths.{Lengths}
 use Rattle.shading.specs.declared.Planes.{Planes}
+use Rattle.shading.specs.declared.Tint.{Tint}
+use Rattle.shading.proofs.Judging.{Accepted, credible}
+use Rattle.shading.proofs.Shades.{Fits, fits}
 
--- the four planes are below 4, whatever the order
-mosaic-low : (order : ℕ) → ((mosaicOf order .r < 4) × (mosaicOf order .gr < 4)) × ((mosaicOf order .b < 4) × (mosaicOf order .gb < 4))
-unfolding mosaicOf
-mosaic-low order = by (eqb order 0) (eqb order 1) (eqb order 2)
+-- a window has four planes
+pub record InFour (planes : Planes) : Type 0 where
+  pub colour : planes .colour < 4
+  pub green : planes .green < 4
+
+pub in-four : (order ratio : ℕ) → InFour (planesOf order ratio)
+unfolding planesOf mosaicOf
+in-four order ratio = by (eqb ratio 0) (eqb order 0) (eqb order 1) (eqb order 2)
   where
-    by : (a b c : Bool) → let m = cond a (mosaic 0 1 3 2) (cond b (mosaic 1 0 2 3) (cond c (mosaic 3 2 0 1) (mosaic 2 3 1 0))) in
-        ((m .r < 4) × (m .gr < 4)) × ((m .b < 4) × (m .gb < 4))
-    by true b c = ((omega arith, omega arith), (omega arith, omega arith))
-    by false true c = ((omega arith, omega arith), (omega arith, omega arith))
-    by false false true = ((omega arith, omega arith), (omega arith, omega arith))
-    by false false false = ((omega arith, omega arith), (omega arith, omega arith))
+    of : (t : Bool) (r gr b gb : ℕ) → r < 4 → gr < 4 → b < 4 → gb < 4
+        → InFour (cond t (record { colour = r; green = gr }) (record { colour = b; green = gb }))
+    of true r gr b gb r-low gr-low b-low gb-low = record { colour = r-low; green = gr-low }
+    of false r gr b gb r-low gr-low b-low gb-low = record { colour = b-low; green = gb-low }
 
--- and so are the two of a ratio
-pub planes-low : (order ratio : ℕ) (of : Planes) → of ≡ planesOf order ratio → (of .colour < 4) × (of .green < 4)
-unfolding planesOf
-planes-low order ratio of e = rw e (by (eqb ratio 0))
-  where
-    by : (b : Bool) → let p = cond b (planes (mosaicOf order .r) (mosaicOf order .gr)) (planes (mosaicOf order .b) (mosaicOf order .gb)) in (p .colour < 4) × (p .green < 4)
-    by true = mosaic-low order .0
-    by false = mosaic-low order .1
+    by : (t p q s : Bool)
+        → let m = cond p (mosaic 0 1 3 2) (cond q (mosaic 1 0 2 3) (cond s (mosaic 3 2 0 1) (mosaic 2 3 1 0))) in
+        InFour (cond t (record { colour = m .r; green = m .gr }) (record { colour = m .b; green = m .gb }))
+    by t true q s = of t 0 1 3 2 (omega arith) (omega arith) (omega arith) (omega arith)
+    by t false true s = of t 1 0 2 3 (omega arith) (omega arith) (omega arith) (omega arith)
+    by t false false true = of t 3 2 0 1 (omega arith) (omega arith) (omega arith) (omega arith)
+    by t false false false = of t 2 3 1 0 (omega arith) (omega arith) (omega arith) (omega arith)
 
--- 11 of one entry: its count is at most its sites, and its total at most what they can hold
-impossible-not : (full sites total count : ℕ) → full ≤ 4095 → impossible full sites total count ≡ false → (count ≤ sites) × (total ≤ 4095 * sites)
-unfolding impossible
-impossible-not full sites total count scale e =
-    let out = neither (ltb sites count) (ltb (count * full) total) e in
-    let few = ltb-false sites count (out .0) in
-    let low = ltb-false (count * full) total (out .1) in
-    (few, omega (arith, times-le count full sites 4095 few scale))
-
-module _ (w h : ℕ) where
-  -- no area has more sites than the centre
-  sites-few : (k : ℕ) → areaSites w h k ≤ 768
-  sites-few k =
-      ⊎-elim
-      (λ l. omega (arith, block-sites w h k l))
-      (λ g. omega (arith, centre-sites w h k g))
-      (lt-or-ge k (blocksOf w h))
-
-  -- a plane and an area of it have an entry of the table, which is of that area
-  module _ (plane k : ℕ) (p : plane < 4) (q : k < areasOf w h) where
-    entry-in : entryAt w h plane k < entriesOf w h
-    entry-in = digits-lt p q
-
-    entry-area : entryArea w h (entryAt w h plane k) ≡ k
-    entry-area = digits-mod plane q
-
-  -- what 11 of one entry says holds of every entry, where 11 lets the table pass
-  entry-possible : (full : ℕ) (totals counts : List ℕ) → full ≤ 4095 → impossibleIn w h full totals counts ≡ false
-      → (plane k : ℕ) → plane < 4 → k < areasOf w h
+-- ---- what a table that 11 lets pass can hold
+module _ (w h full : ℕ) (totals counts : List ℕ) (scale : full ≤ 4095) (possible : impossibleIn w h full totals counts ≡ false) where
+  -- of area k of a plane
+  pub entry-possible : (plane k : ℕ) → plane < 4 → k ≤ blocksOf w h
       → (held counts (entryAt w h plane k) ≤ areaSites w h k) × (held totals (entryAt w h plane k) ≤ 4095 * areaSites w h k)
-  unfolding impossibleIn
-  entry-possible full totals counts scale e plane k p q =
+  entry-possible plane k few last =
       let at = entryAt w h plane k in
-      let here = first-nowhere (impossibleAt w h full totals counts) (entriesOf w h) e at (entry-in plane k p q) in
-      impossible-not full (areaSites w h k) (held totals at) (held counts at) scale
-      (ap (λ (n : ℕ). impossible full (areaSites w h n) (held totals at) (held counts at)) (sym (entry-area plane k p q)) ∙ here)
+      let of = credible w h full totals counts possible at (entry-below w h plane k last few) in
+      let below = rw (entry-area w h plane k last) at (of .few) in
+      (below, omega (arith, of .low, times-le (held counts at) full (areaSites w h k) 4095 below scale))
 
-  -- 11 of one entry more: where the walk begins, a turn, and its end
-  module _ (full : ℕ) (totals counts : List ℕ) where
-    pub asked-none : false ≡ someTo 0 (impossibleAt w h full totals counts)
-    asked-none = sym (some-none _)
+  -- of area k of two planes
+  pub tint-possible : (of : Planes) → InFour of → (k : ℕ) → k ≤ blocksOf w h
+      → Possible (areaSites w h k) (tint (entryOf w h totals counts (of .colour) k) (entryOf w h totals counts (of .green) k))
+  tint-possible of low k last =
+      let colour = entry-possible (of .colour) k (low .colour) last in
+      let green = entry-possible (of .green) k (low .green) last in
+      (colour .0, colour .1, green .0, green .1)
 
-    pub asked-more : (e sites blocks : ℕ) (found odd : Bool) → found ≡ someTo e (impossibleAt w h full totals counts)
-        → blocks ≡ blocksOf w h → sites ≡ areaSites w h (e % (blocks + 1)) → odd ≡ impossible full sites (held totals e) (held counts e)
-        → (found || odd) ≡ someTo (e + 1) (impossibleAt w h full totals counts)
-    asked-more e sites blocks found odd f b s o = rw (f, o, s, b) (some-more (impossibleAt w h full totals counts) e)
+-- ---- what a ratio reads
+module _ (call : Asked) (totals counts : List ℕ) (planes : Planes) where
+  -- of area k of its two planes
+  abbrev pub area : ℕ → Tint
+  area k = tint (entryOf (call .width) (call .height) totals counts (planes .colour) k) (entryOf (call .width) (call .height) totals counts (planes .green) k)
 
-    pub asked-all : (n : ℕ) (found : Bool) → found ≡ someTo n (impossibleAt w h full totals counts) → n ≡ entriesOf w h → found ≡ impossibleIn w h full totals counts
-    unfolding impossibleIn
-    asked-all n found f e = f ∙ ap (λ (n : ℕ). someTo n (impossibleAt w h full totals counts)) e
+  pub shade-in : (ratio k : ℕ) → planesOf (call .order) ratio ≡ planes
+      → shadeIn call totals counts ratio k ≡ shadeOf (call .black) (call .limit) (area k) (area (blocksOf (call .width) (call .height)))
+  unfolding shadeIn tintOf
+  shade-in ratio k e = rw e
 
--- of a whole table the entry of an area of a plane can be read, and holds what is possible; the code has the count of blocks
-module _ (given : Asked) (totals counts : List ℕ) (whole : Whole given totals counts) (k blocks : ℕ)
-    (in-areas : k < areasOf (given .width) (given .height)) (is : blocks ≡ blocksOf (given .width) (given .height)) where
-  possible-at : (plane : ℕ) → plane < 4
-      → (held counts (plane * (blocks + 1) + k) ≤ areaSites (given .width) (given .height) k)
-      × (held totals (plane * (blocks + 1) + k) ≤ 4095 * areaSites (given .width) (given .height) k)
-  possible-at plane p = rw is (entry-possible (given .width) (given .height) (given .full) totals counts (whole .2) (whole .5) plane k p in-areas)
+-- block k of a ratio stands at place k of its own half of a buffer
+pub shade-at : (call : Asked) (totals counts : List ℕ) (ratio k : ℕ) → k < blocksOf (call .width) (call .height)
+    → shadeAt call totals counts (ratio * blocksOf (call .width) (call .height) + k) ≡ shadeIn call totals counts ratio k
+shade-at call totals counts ratio k l = ap₂ (λ (x y : ℕ). shadeIn call totals counts x y) (digits-div ratio l) (digits-mod ratio l)
 
-  pub read-at : (plane : ℕ) → plane < 4
-      → (plane * (blocks + 1) + k < length totals) × (plane * (blocks + 1) + k < length counts) × (held counts (plane * (blocks + 1) + k) ≤ 768)
-  read-at plane p =
-      let in-table : plane * (blocks + 1) + k < entriesOf (given .width) (given .height) = rw is (entry-in (given .width) (given .height) plane k p in-areas) in
-      (omega (arith, whole .3), omega (arith, whole .4), omega (arith, possible-at plane p .0, sites-few (given .width) (given .height) k))
+-- of an accepted call, every block and ratio fits
+module _ (call : Asked) (long : Lengths) (totals counts : List ℕ) (a : Accepted call long totals counts) where
+  pub shade-fits : (ratio k : ℕ) → k < blocksOf (call .width) (call .height) → Fits (shadeIn call totals counts ratio k)
+  shade-fits ratio k l =
+      let w = call .width in
+      let h = call .height in
+      let planes = planesOf (call .order) ratio in
+      let of = in-four (call .order) ratio in
+      let can = tint-possible w h (call .full) totals counts (a .of .scale) (a .possible) planes of in
+      rw (shade-in call totals counts planes ratio k refl)
+      (fits (call .black) (call .limit) (area call totals counts planes k) (area call totals counts planes (blocksOf w h)) (le-trans (a .of .dark) (a .of .scale))
+      (rw (block-sites w h k l) at (can k (omega arith)))
+      (rw (centre-sites w h (blocksOf w h) (omega arith)) at (can (blocksOf w h) (omega arith))))
 
-  pub tint-is : (of : Planes) → of .colour < 4 → of .green < 4 → (colour green : Sums)
-      → colour ≡ sums (held counts (of .colour * (blocks + 1) + k)) (held totals (of .colour * (blocks + 1) + k))
-      → green ≡ sums (held counts (of .green * (blocks + 1) + k)) (held totals (of .green * (blocks + 1) + k))
-      → (tint colour green ≡ tintOf (given .width) (given .height) totals counts of k)
-      × Possible (areaSites (given .width) (given .height) k) (tint colour green)
-  unfolding tintOf
-  tint-is of p q colour green c g =
-      let of-colour = possible-at (of .colour) p in
-      let of-green = possible-at (of .green) q in
-      rw (c, g) (rw is, (of-colour .0, of-colour .1, of-green .0, of-green .1))
+-- ---- the table of a mask and a frame
+module _ (w h full : ℕ) (mask frame totals counts : List ℕ) (is : TableOf w h full mask frame totals counts) where
+  -- where all surveyed samples of a plane are equal, its totals are that sample × count
+  pub even-entry : (s : ℕ → ℕ) → ((i : ℕ) → i < sitesOf w h → surveyed (getD mask i 0) ≡ true → getD frame i 0 ≡ s (planeOf w i))
+      → (e : ℕ) → e < entriesOf w h → held totals e ≡ s (entryPlane w h e) * held counts e
+  unfolding entrySum
+  even-entry s same e l =
+      let summed = table-summed w h full mask frame totals counts is in
+      let sites = sides w h (summed .lent .of .legal) .sites in
+      let plane = entryPlane w h e in
+      let total : held totals e ≡ entrySum w h (seen mask frame) e = rw (summed .totals-sum) (getD-tabulate (entriesOf w h) (entrySum w h (seen mask frame)) e l) in
+      let count : held counts e ≡ entrySum w h (one mask) e = rw (summed .counts-sum) (getD-tabulate (entriesOf w h) (entrySum w h (one mask)) e l) in
+      total
+      ∙ box-level w h plane (areaOf w h (entryArea w h e)) mask frame (s plane)
+      (λ u v p q t. same (siteAt w plane u v) (omega (arith, site-in w h plane u p v q)) t ∙ ap s (plane-of w plane u v q (plane-few w h e l)))
+      ∙ sym (ap (λ (n : ℕ). s plane * n) count)

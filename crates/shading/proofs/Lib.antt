@@ -1,3 +1,7 @@
-pub mod Entries
+pub mod Judging
 pub mod Shades
-pub mod Accepts
+pub mod Machine
+pub mod Entries
+pub mod Walks
+pub mod Limits
+pub mod Promises

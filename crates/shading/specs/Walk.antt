@@ -4,17 +4,15 @@ use mathlib.Core.Bool.{false}
 use mathlib.Core.List.{List}
 use mathlib.Core.Path.{_≡_}
 use lib.ListN.{length}
-use Rattle.window.specs.Shape.{badSides}
-use Rattle.colour.specs.Centre.{tooSmall}
 use Rattle.blocks.specs.Areas.{entriesOf}
 use Rattle.shading.specs.Judge.{impossibleIn}
 use Rattle.shading.specs.declared.Asked.{Asked}
 use Rattle.shading.specs.declared.Tint.{Tint}
 
--- a table that 1, 4, 9 and 11 let pass, and a full scale that 2 does
+-- a table that 4 and 11 let pass, and a full scale that 2 does
 abbrev pub Whole : Asked → List ℕ → List ℕ → Type 0
 Whole given totals counts =
-    (badSides (given .width) (given .height) ≡ false) × (tooSmall (given .width) (given .height) ≡ false) × (given .full ≤ 4095)
+    (given .full ≤ 4095)
     × (length totals ≡ entriesOf (given .width) (given .height)) × (length counts ≡ entriesOf (given .width) (given .height))
     × (impossibleIn (given .width) (given .height) (given .full) totals counts ≡ false)
 

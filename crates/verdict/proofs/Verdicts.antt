@@ -1,13 +1,13 @@
 -- The laws of verdicts in turn: a number is given exactly where its test applies and none before it does.
 use Prim.Native.Nat.{ℕ, _≤_, _<_}
-use mathlib.Core.Bool.{Bool, true, false, cond, _&&_}
+use mathlib.Core.Bool.{Bool, true, false, not, cond, _&&_}
 use mathlib.Core.List.{List, [], _∷_, _++_}
 use mathlib.Core.Path.{_≡_, refl, sym, ap, ap₂, _∙_, subst}
 use native.Mathlib.Omega.{arith}
 use lib.Dec.{eqb, ltb}
-use borrow.Author.Tests.{ltb-true, eqb-true, eq-eqb, ne-eqb}
+use borrow.Author.Tests.{ltb-true, eqb-true, eq-eqb, ne-eqb, not-true}
 use Rattle.laws.specs.First.{firstTo, someTo}
-use Rattle.laws.proofs.Cases.{and-true}
+use Rattle.laws.proofs.Cases.{and-true, not-both}
 use Rattle.verdict.specs.Verdict.{refusal, refusalOver, _⨟_, refuseWith, refuseFirst, numberOf, placeOf, overOf}
 use Rattle.verdict.specs.Answer.{CountedPaper}
 use Rattle.verdict.specs.declared.Refusal.{Refusal}
@@ -320,3 +320,19 @@ module _ {ts : List Test} (v : Verdict) (t : Tabled v ts) (u : othersUncounted t
 
   pub never-over : overOf v ≡ 0
   never-over = uncounting .else-none never-six
+
+-- every test of a number in a table does not apply
+abbrev pub idle : ℕ → List Test → Bool
+idle n [] = true
+idle n (t ∷ ts) = not (eqb (t .refusal .number) n && t .applies) && idle n ts
+
+-- so that number is not given
+pub never-given : {ts : List Test} {n : ℕ} (v : Verdict) → Tabled v ts → idle n ts ≡ true → 0 < n → numberOf v ≡ n → ⊥
+never-given Clear t i some e = omega arith
+never-given {ts} {n} (Refused r) t i some e = by ts i (t .only r refl) e
+  where
+    by : (us : List Test) {r : Refusal} → idle n us ≡ true → Given us r → r .number ≡ n → ⊥
+    by (u ∷ us) i (here a) e =
+        let still = not-true (eqb (u .refusal .number) n && u .applies) (and-true (not (eqb (u .refusal .number) n && u .applies)) (idle n us) i .0) in
+        not-both a (rw (eq-eqb (u .refusal .number) n e) at still)
+    by (u ∷ us) i (later a g) e = by us (and-true (not (eqb (u .refusal .number) n && u .applies)) (idle n us) i .1) g e

@@ -1,13 +1,12 @@
 -- `sum_areas` is right because each turn sums one more entry's area.
 use Prim.Native.Nat.{ℕ, _+_, _-_, _≤_}
-use mathlib.Core.Path.{_≡_, ap, _∙_}
+use mathlib.Core.Path.{_≡_, ap}
 use native.Mathlib.Omega.{arith}
 use lib.ListN.{length}
 use borrow.Author.Needs.{needs}
 use Rattle.laws.proofs.Tables.{Filling, filling-none, filling-more, filling-done}
 use Rattle.window.specs.View.{seen, one}
 use Rattle.window.proofs.Sides.{sides}
-use Rattle.blocks.specs.Areas.{areasOf}
 use Rattle.blocks.specs.Table.{entrySum}
 use Rattle.blocks.proofs.Told.{entry-summed}
 use Rattle.blocks.proofs.sum_areas.Statement.{statement}

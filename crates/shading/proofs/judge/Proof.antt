@@ -1,7 +1,7 @@
 -- `judge` is right because 11 is asked only of a table that 1 to 4 and 9 let pass.
 use mathlib.Core.Path.{_∙_, sym}
 use borrow.Author.Needs.{needs}
-use Rattle.shading.proofs.Accepts.{lent, asked-last, lent-refused}
+use Rattle.shading.proofs.Judging.{lent, asked-last, lent-refused}
 use Rattle.shading.proofs.judge.Statement.{statement}
 use Rattle.shading.proofs.judge.Tie as tie
 
@@ -16,7 +16,7 @@ enum-told c = search needs
 
 some-impossible-requires : tie.Need-some-impossible-requires
 some-impossible-requires c κs = let l = lent _ _ _ _ (sym (c .before .before .judge-lent .ensures) ∙ c .enum-told .given .1) in
-    (l .scale, l .of-totals, l .of-counts)
+    (l .scale, l .totals-long, l .counts-long)
 
 refuse-if-requires : tie.Need-refuse-if-requires
 refuse-if-requires c κs = search needs

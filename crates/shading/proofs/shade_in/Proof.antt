@@ -3,7 +3,7 @@ use native.Mathlib.Omega.{arith}
 use borrow.Author.Needs.{needs}
 use Rattle.blocks.proofs.Areas.{block-sites, centre-sites}
 use Rattle.shading.specs.Judge.{shadeIn}
-use Rattle.shading.proofs.Entries.{planes-low}
+use Rattle.shading.proofs.Entries.{in-four}
 use Rattle.shading.proofs.shade_in.Statement.{statement}
 use Rattle.shading.proofs.shade_in.Tie as tie
 
@@ -15,14 +15,14 @@ blocks-requires c κs = search needs
 
 tint-at-requires : tie.Need-tint-at-requires
 tint-at-requires c κs = let s = c .before .before .before .before in
-    let low = planes-low _ _ _ (c .before .planes-of .ensures) in
-    ((low .0, low .1, omega arith), s .pre .1)
+    let low = rw (← c .before .planes-of .ensures) at (in-four (s .args .asked .order) (s .args .ratio)) in
+    ((low .colour, low .green, omega arith), s .pre .1)
 
 tint-at-requires-2 : tie.Need-tint-at-requires-2
 tint-at-requires-2 c κs = let b = c .before in
     let s = b .before .before .before .before in
-    let low = planes-low _ _ _ (b .before .planes-of .ensures) in
-    ((low .0, low .1, omega (arith, b .blocks2 .ensures .0)), s .pre .1)
+    let low = rw (← b .before .planes-of .ensures) at (in-four (s .args .asked .order) (s .args .ratio)) in
+    ((low .colour, low .green, omega (arith, b .blocks2 .ensures .0)), s .pre .1)
 
 cast-shade-of : tie.Need-cast-shade-of
 cast-shade-of c = search needs

@@ -3,7 +3,7 @@ use mathlib.Core.Bool.{_||_}
 use mathlib.Core.Path.{_≡_, ap₂, sym, _∙_}
 use borrow.Author.Needs.{needs}
 use Rattle.shading.specs.Shade.{tooFew, shadeOf}
-use Rattle.shading.proofs.Shades.{ratio-low}
+use Rattle.shading.proofs.Shades.{small}
 use Rattle.shading.proofs.shade_of.Statement.{statement}
 use Rattle.shading.proofs.shade_of.Tie as tie
 
@@ -45,9 +45,9 @@ over-requires-2 c κs = search needs
 
 judged-shade-requires : tie.Need-judged-shade-requires
 judged-shade-requires c κs = let s = c .before .before .before .before .before .before .before in
-    let of-block = ratio-low _ 192 (s .args .block) _ (s .pre .0 .0) (s .pre .1 .0) (c .before .over .ensures) in
-    let of-centre = ratio-low _ 768 (s .args .centre) _ (s .pre .0 .0) (s .pre .1 .1) (c .over2 .ensures) in
-    (s .pre .0 .1, of-block .0, of-block .1, of-centre .0, of-centre .1)
+    let of-block = rw (← c .before .over .ensures) at (small _ 192 (s .args .block) (s .pre .0 .0) (s .pre .1 .0)) in
+    let of-centre = rw (← c .over2 .ensures) at (small _ 768 (s .args .centre) (s .pre .0 .0) (s .pre .1 .1)) in
+    (s .pre .0 .1, of-block .up, of-block .down, of-centre .up, of-centre .down)
 
 returns-3 : tie.Need-returns-3
 unfolding shadeOf

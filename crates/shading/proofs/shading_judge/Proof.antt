@@ -6,7 +6,7 @@ use borrow.Author.Needs.{needs}
 use Rattle.shading.specs.Judge.{asked, lengths, judgeVerdict}
 use Rattle.shading.specs.declared.Asked.{Asked}
 use Rattle.shading.specs.declared.Lengths.{Lengths}
-use Rattle.shading.proofs.Accepts.{accepted, refused-is, accepted-is}
+use Rattle.shading.proofs.Judging.{accepted, refused-is, accepted-is}
 use Rattle.shading.proofs.shading_judge.Statement.{statement}
 use Rattle.shading.proofs.shading_judge.Tie as tie
 
@@ -43,8 +43,8 @@ judge-blocks-requires : tie.Need-judge-blocks-requires
 judge-blocks-requires c κs = let e = c .before .before .before .before in
     let j = e .before .before in
     let a = accepted (Given j) (Long j) _ _ (sym (judged j) ∙ e .enum-told .given .1) in
-    let l = a .0 in
-    rw (j .before .before .before .before .before .before .asked-of .ensures) ((omega (arith, l .dark, l .scale), l .limited, l .of-numerators, l .of-denominators, l .of-refusals, l .of-fails), a .1)
+    let l = a .of in
+    rw (j .before .before .before .before .before .before .asked-of .ensures) ((omega (arith, l .dark, l .scale), l .limit-high, l .numerators-long, l .denominators-long, l .refusals-long, l .fails-long), (l .scale, l .totals-long, l .counts-long, a .possible))
 
 same-length : tie.Need-same-length
 same-length c = search needs

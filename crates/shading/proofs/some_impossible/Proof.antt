@@ -6,7 +6,7 @@ use lib.ListN.{length}
 use borrow.Author.Needs.{needs}
 use Rattle.laws.specs.First.{someTo}
 use Rattle.shading.specs.Judge.{impossibleAt}
-use Rattle.shading.proofs.Entries.{asked-none, asked-more, asked-all}
+use Rattle.shading.proofs.Walks.{asked-none, asked-more, asked-all}
 use Rattle.shading.proofs.some_impossible.Statement.{statement}
 use Rattle.shading.proofs.some_impossible.Tie as tie
 

@@ -3,7 +3,7 @@ use Prim.Native.Nat.{ℕ, _+_, _*_, _≤_, _<_}
 use native.Mathlib.Omega.{arith}
 use borrow.Author.Needs.{needs}
 use Rattle.laws.proofs.Cases.{times-le}
-use Rattle.shading.proofs.Entries.{read-at, tint-is}
+use Rattle.shading.proofs.Walks.{read-at, tint-is}
 use Rattle.shading.proofs.tint_at.Statement.{statement}
 use Rattle.shading.proofs.tint_at.Tie as tie
 
@@ -46,7 +46,7 @@ returns : tie.Need-returns
 returns c = let b = c .before .before .before .before in
     let s = Begun b in
     tint-is (s .args .asked) (s .args .totals .now) (s .args .counts .now) (s .pre .1) (s .args .k) _ (s .pre .0 .2) (b .blocks2 .ensures .0)
-    (s .args .of) (s .pre .0 .0) (s .pre .0 .1) _ _ (c .before .before .sums-at .ensures) (c .sums-at2 .ensures)
+    (s .args .of) (record { colour = s .pre .0 .0; green = s .pre .0 .1 }) _ _ (c .before .before .sums-at .ensures) (c .sums-at2 .ensures)
 
 pub tint-at-spec : {M : Type 1} → statement M
 tint-at-spec =
