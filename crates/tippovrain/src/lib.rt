@@ -8,4 +8,5 @@ mod marks;
 mod pairs;
 mod patterns;
 mod raw10;
+mod shadings;
 mod stacks;
