@@ -1,8 +1,8 @@
 /*
- * Tippovrain: a camera bench. Figures of noise, dark level, pattern, defects and colour from raw Bayer windows
- * that the caller lends, and the gain from a list of such figures at several exposures. It allocates nothing, keeps
- * nothing between two calls, prints nothing, and each call ends on any input. Calls may run at the same time, so long
- * as none writes what another one is lent.
+ * Tippovrain: a camera bench. Figures of noise, dark level, pattern, defects, colour and colour shading from raw Bayer
+ * windows that the caller lends, and the gain from a list of such figures at several exposures. It allocates nothing,
+ * keeps nothing between two calls, prints nothing, and each call ends on any input. Calls may run at the same time, so
+ * long as none writes what another one is lent.
  *
  * Linking. libtippovrain.a is x86-64 code and needs nothing but the C library:
  *
@@ -45,9 +45,12 @@
  *  - full_scale, the greatest sample that a surveyed site may have, is 1 to 4095 grey levels.
  *  - A mask has a code for each site: 0 surveyed (its sample counts), 1 gap (nothing was seen there), 2 defect (found
  *    bad), 3 filled (a defect that repair gave a sample). Only samples and sums at code 0 are read for a figure, a
- *    verdict or a refusal; at any other code they may be any number.
+ *    verdict or a refusal; at any other code they may be any number. To tip_shading_recode a site is surveyed where its
+ *    old or its new code is 0.
  *  - A plane is the sites of one row parity and one column parity. There are four, each width / 2 by height / 2:
  *    (0,0), (0,1), (1,0), (1,1), the row's parity first.
+ *  - A block is 16 columns and 12 rows of a plane, a centre the middle 32 columns and 24 rows of one. A table has for
+ *    each a total of samples and a count of sites: see colour shading, below.
  *  - A point is what was measured at one exposure: a mean, in sixteenths of a grey level, 0 to 65520, and a variance,
  *    in sixteenths of a grey level squared, 0 to 2^28. It is a tip_point. A list has 1 to 64 points, numbered from 0.
  *  - A buffer is a pointer and a length. The length counts elements, not bytes, and must be exactly what is said. Only
@@ -61,7 +64,7 @@
  *  - On a refusal every lent buffer stays as it was, to the last byte.
  *  - Any value of a parameter's type may be handed in, sides and lengths included: what is out of range is refused.
  *  - Where a figure is two whole numbers, numerator over denominator, they are not reduced, and in an accepted call
- *    the denominator is above 0.
+ *    the denominator is above 0. Only of a block and ratio that tip_shading_judge refuses by itself both are 0.
  *
  * The caller's fault, and not tested for:
  *  - a NULL or misaligned pointer. An empty buffer needs a pointer too, any that is neither;
@@ -70,25 +73,31 @@
  *    them, that overlaps a buffer or another such pointer. Two buffers that are only read may be one.
  *
  * Refusals. They are tested in ascending number, and the first that applies is given; each call names the ones it
- * tests. Two calls have another order, and say so: tip_colour_ratios and tip_job.
+ * tests. Three calls have another order, and say so: tip_colour_ratios, tip_shading_judge and tip_job. The 7 and the 10
+ * of tip_shading_judge are not its result: they stand in a buffer, each for one block and ratio, and the call is
+ * accepted.
  *
  *   no.  given when
  *    1   a side is odd or not in 2..128
  *    2   the full scale is not in 1..4095
  *    3   another parameter is out of range: black level above full scale, threshold above 4095, Bayer order above 3,
- *        frame count above 100 (or 0 in the stack variance and pattern noise). In photon transfer: the list is empty
- *        or has more than 64 points, a point of it, chosen or not, is out of limits, or first and last are outside
- *        the list or reversed
+ *        frame count above 100 (or 0 in the stack variance and pattern noise), a limit of shading not in 1..16, a site
+ *        to recode outside the window. In photon transfer: the list is empty or has more than 64 points, a point of it,
+ *        chosen or not, is out of limits, or first and last are outside the list or reversed
  *    4   a lent buffer's length is not exactly the one needed
- *    5   a mask code is above 3
+ *    5   a mask code is above 3; in tip_shading_recode the site's old or new one
  *    6   a surveyed sample is above full scale; over says how many are
  *    7   too few: fewer than 2 surveyed sites (pair), none (dark level, stack variance, a plane's centre in colour
- *        ratios), fewer than 2 frames (stack variance), or fewer than 2 chosen points (photon transfer)
+ *        ratios; in colour shading a block or a centre of one of the ratio's two planes), fewer than 2 frames (stack
+ *        variance), or fewer than 2 chosen points (photon transfer)
  *    8   pattern noise, and some mask code is not 0
  *    9   the window is too small for the test: pattern noise needs 12 columns (vertical) or rows (horizontal),
- *        defective rows 18 rows, defective columns 18 columns, colour ratios a width of 64 and a height of 48
- *   10   the Gr total of a colour ratio is not above 0
- *   11   a stack's sums cannot come from its frame count
+ *        defective rows 18 rows, defective columns 18 columns, colour ratios and shading a width of 64 and a height
+ *        of 48
+ *   10   the Gr total of a colour ratio is not above 0; in colour shading Gr's, or for B/Gb Gb's, in the block or at
+ *        the centre, or R's, or for B/Gb B's, at the centre
+ *   11   a stack's sums cannot come from its frame count; in colour shading a count of the table is above its sites, or
+ *        a total above count * full scale
  *   12   a frame is offered to a stack of 100
  *   13   photon transfer, and all chosen means are equal
  *   14   photon transfer, and numerator or denominator is 2^53 or more in size
@@ -98,14 +107,15 @@
  *   23   bytes follow the last field of a stream
  *   24   a side of a stream's window is above 64
  *
- * The place of 5 and 6 is the first offending site, as its number in its own frame; of 20 to 23 an offset in the
- * stream, in bytes from 0; of any other refusal it is 0. A 6 of two frames is the first frame's where the first's
- * sample at that site is above full scale, else the second's.
+ * The place of 5 and 6 is the first offending site, as its number in its own frame, and in tip_shading_recode the site
+ * that is recoded; of 20 to 23 an offset in the stream, in bytes from 0; of any other refusal it is 0. A 6 of two
+ * frames is the first frame's where the first's sample at that site is above full scale, else the second's.
  *
  * Every call that can give 6 writes over. Of a 6 it is how many surveyed samples are above full scale, in all frames
  * of the call, wherever the place is: 1 to width * height, and with two frames up to twice that. Of any other refusal,
  * and where the call is accepted, it is 0. A sample at full scale is not counted, nor is one at any code but 0. One hot
- * site gives 1, or with two frames 2; a wrong exposure or a wrong full_scale gives many.
+ * site gives 1, or with two frames 2; a wrong exposure or a wrong full_scale gives many. tip_shading_recode reads one
+ * site, so of its 6 over is 1.
  */
 #ifndef TIPPOVRAIN_H
 #define TIPPOVRAIN_H
@@ -477,6 +487,141 @@ uint64_t tip_colour_ratios(size_t width, size_t height, uint64_t full_scale, uin
                            int64_t *r_numerator, uint64_t *r_denominator,
                            int64_t *b_numerator, uint64_t *b_denominator,
                            int64_t *gb_numerator, uint64_t *gb_denominator);
+
+/*
+ * Colour shading: how far each block's colour is from the centre's. Three calls share one table, and none of them
+ * answers a number beside the refusal's.
+ *
+ * Blocks. Each plane (width / 2 by height / 2) is divided into blocks 16 wide and 12 high, from its top left. What is
+ * left over at the right and lower edge is in no block. There are width / 32 blocks side by side and height / 24 below
+ * one another, divided down; blocks is their product, 4 to 20 where the window is not too small. They are numbered from
+ * 0 in row order. The centre is that of tip_colour_ratios, 32 wide and 24 high. A site may be in a block, in the
+ * centre, in both or in neither.
+ *
+ * The table. For each block and each centre of each plane, a total, the sum of its surveyed samples in grey levels, and
+ * a count, how many sites of it are surveyed: at most 192 in a block and 768 at a centre. totals and counts are two
+ * buffers of 4 * (blocks + 1) each. Plane p, 0 to 3 for (0,0), (0,1), (1,0), (1,1), has block k at p * (blocks + 1) + k
+ * and its centre at p * (blocks + 1) + blocks. No black level is taken off in it, and no Bayer order is asked for it.
+ *
+ * Whose it is. The caller owns the table and lends it, as it does mask and frame: tip_shading_table makes it,
+ * tip_shading_recode keeps it in step with a mask code that changes, and tip_shading_judge only reads it.
+ */
+
+/*
+ * Makes the table of a frame under a mask.
+ *
+ *   full_scale   grey levels, 1 to 4095
+ *   mask         width * height codes, only read: 0 surveyed, 1 gap, 2 defect, 3 filled
+ *   frame        width * height samples, only read; a sample at any code but 0 may be any number, and changes nothing
+ *   totals       4 * (blocks + 1) totals, grey levels, each written: 0 to count * full_scale
+ *   counts       4 * (blocks + 1) counts of sites, each written: 0 to 192 for a block, 0 to 768 for a centre
+ *   place        written: the first offending site for 5 and 6, else 0
+ *   over         written: for 6 how many surveyed samples are above full_scale, 1 to width * height; else 0
+ *
+ * What is made here tip_shading_judge never refuses with 11, given the same sides and full_scale.
+ *
+ * Refusals, in the order tested: 1; 2; 4 (mask, frame, totals or counts); 5; 6; 9 (width below 64 or height below 48,
+ * even with no surveyed site). 5 and 6 look at the whole window, so over counts sites in no block too. The lengths are
+ * asked for where 9 follows too: a window of 62 by 48 has two blocks, so it needs 12 totals and 12 counts to get 9.
+ *
+ *   64 * 48 samples, R Gr / Gb B at 164 264 / 264 114, but 184 at R in the first block; mask all 0:
+ *   uint32_t totals[20], counts[20];
+ *   uint64_t place, over;
+ *   tip_shading_table(64, 48, 1023, mask, 3072, frame, 3072, totals, 20, counts, 20, &place, &over);
+ *                                       gives 0; counts are 192, at the four centres 768; totals[0] is 192 * 184,
+ *                                       totals[1] to [3] 192 * 164, totals[4], R's centre, 768 * 169
+ */
+uint64_t tip_shading_table(size_t width, size_t height, uint64_t full_scale,
+                           const uint8_t *mask, size_t mask_len,
+                           const uint16_t *frame, size_t frame_len,
+                           uint32_t *totals, size_t totals_len,
+                           uint32_t *counts, size_t counts_len,
+                           uint64_t *place, uint64_t *over);
+
+/*
+ * Changes one mask code, and amends the table at that site's block and centre, if it lies in one. From code 0 to
+ * another its sample is taken off the total and 1 off the count, from another to 0 they are added, else the table
+ * stays. A table made under the old mask is then the one that tip_shading_table makes under the new mask. Any code may
+ * be changed, a gap's too. No other site's code or sample is read.
+ *
+ * The table is trusted: whether it fits the mask is not tested, there is no 11, and it is amended modulo 2^32.
+ * Recoding back leaves mask and table as they were, whatever the table.
+ *
+ *   full_scale   grey levels, 1 to 4095
+ *   site         0 to width * height - 1
+ *   code         the new code, 0 to 3; it may be the old one
+ *   mask         width * height codes; written at site where the call is accepted, and nowhere else
+ *   frame        width * height samples, only read; where neither the old nor the new code is 0, the site's may be any
+ *                number
+ *   totals       4 * (blocks + 1) totals, grey levels; written, at the site's block and centre, where the call is
+ *                accepted
+ *   counts       4 * (blocks + 1) counts of sites, likewise
+ *   place        written: site for 5 and 6, else 0
+ *   over         written: 1 for 6, else 0
+ *
+ * Refusals, in the order tested: 1; 2; 3 (site outside the window); 4 (mask, frame, totals or counts); 5 (the old or
+ * the new code is above 3); 6 (the sample is above full_scale, and the old or the new code is 0); 9 (width below 64 or
+ * height below 48).
+ *
+ *   With the table above, site 0, which is R in the first block and at the centre:
+ *   tip_shading_recode(64, 48, 1023, 0, 1, mask, 3072, frame, 3072, totals, 20, counts, 20, &place, &over);
+ *                                       gives 0; mask[0] is 1, totals[0] 191 * 184, counts[0] 191, totals[4] 184 less,
+ *                                       counts[4] 767. With code 0 in a second call all is as before
+ */
+uint64_t tip_shading_recode(size_t width, size_t height, uint64_t full_scale, size_t site, uint64_t code,
+                            uint8_t *mask, size_t mask_len,
+                            const uint16_t *frame, size_t frame_len,
+                            uint32_t *totals, size_t totals_len,
+                            uint32_t *counts, size_t counts_len,
+                            uint64_t *place, uint64_t *over);
+
+/*
+ * Judges each block's R/Gr, and B/Gb, by the centre's. T is total - black_level * count. In the block R/Gr is a over b,
+ * a = T(R) * count(Gr) and b = T(Gr) * count(R); at the centre it is c over d, likewise. As a part of the centre's, the
+ * block's ratio is |a * d - c * b| over c * b off, a pure number, unreduced, and it fails where that is above limit
+ * sixteenths: 16 * numerator > limit * denominator. B/Gb is the same with B for R and Gb for Gr. No mask is taken, and
+ * no frame.
+ *
+ *   full_scale     grey levels, 1 to 4095
+ *   black_level    grey levels, 0 to full_scale
+ *   bayer_order    0 to 3: the colour at site (0,0), as tip_colour_ratios
+ *   limit          sixteenths, 1 to 16
+ *   totals         4 * (blocks + 1) totals, grey levels, only read, each at most count * full_scale
+ *   counts         4 * (blocks + 1) counts of sites, only read, each at most 192 for a block and 768 for a centre
+ *   numerators     2 * blocks numbers, each written: |a * d - c * b|, below 2^60; 0 where refused
+ *   denominators   2 * blocks numbers, each written: c * b, above 0; 0 where refused
+ *   refusals       2 * blocks bytes, each written: 7 or 10 where this block and ratio is refused, else 0
+ *   fails          2 * blocks bytes, each written: 1 where the block fails in this ratio, else 0
+ *   place          written: 0
+ *
+ * In the four written buffers R/Gr of block k is at k, B/Gb of block k at blocks + k.
+ *
+ * Refusals, in the order tested: 1; 2; 3 (black_level above full_scale, bayer_order above 3, limit not in 1..16);
+ * 4 (totals, counts, numerators, denominators, refusals or fails); 9 (width below 64 or height below 48); 11 (anywhere
+ * in the table a count above 192 for a block or 768 for a centre, or a total above count * full_scale); and then, in
+ * refusals, for each block and ratio by itself: 7 (one of the ratio's two planes has count 0 in the block or at the
+ * centre); 10 (T of Gr, or for B/Gb of Gb, in the block or at the centre, or T of R, or for B/Gb of B, at the centre,
+ * is not above 0). T of R or B in the block may be 0 or below. 11 stands before 7 and 10, and refuses the whole call. A
+ * 7 or 10 does not: the result is 0, and every other block and ratio is judged all the same.
+ *
+ *   With the table above:
+ *   uint64_t numerators[8], denominators[8];
+ *   uint8_t refusals[8], fails[8];
+ *   tip_shading_judge(64, 48, 1023, 64, 0, 2, totals, 20, counts, 20, numerators, 8, denominators, 8, refusals, 8,
+ *                     fails, 8, &place);
+ *                                       gives 0; numerators[0] / denominators[0] is 65229815808000 / 456608710656000,
+ *                                       a seventh, and fails[0] is 1; R/Gr of the other three blocks is 1/21 off, B/Gb
+ *                                       of all four 0, and these pass. With limit 3 every block passes
+ */
+uint64_t tip_shading_judge(size_t width, size_t height, uint64_t full_scale, uint64_t black_level,
+                           uint64_t bayer_order, uint64_t limit,
+                           const uint32_t *totals, size_t totals_len,
+                           const uint32_t *counts, size_t counts_len,
+                           uint64_t *numerators, size_t numerators_len,
+                           uint64_t *denominators, size_t denominators_len,
+                           uint8_t *refusals, size_t refusals_len,
+                           uint8_t *fails, size_t fails_len,
+                           uint64_t *place);
 
 /*
  * A point of a photon transfer: what was measured at one exposure.
