@@ -30,6 +30,12 @@ pub enum Call {
     DefectiveColumns,
     /// [`colour_ratios`](crate::colour_ratios)
     ColourRatios,
+    /// [`shading_table`](crate::shading_table)
+    ShadingTable,
+    /// [`shading_recode`](crate::shading_recode)
+    ShadingRecode,
+    /// [`shading_judge`](crate::shading_judge)
+    ShadingJudge,
     /// [`photon_transfer`](crate::photon_transfer)
     PhotonTransfer,
     /// [`job`](crate::job)
@@ -38,7 +44,7 @@ pub enum Call {
 
 impl Call {
     /// The numbers that the call can refuse with, in the order tested; of a job, whose fields are judged one by one,
-    /// in the order of its list of errors.
+    /// in the order of its list of errors. The 7 and 10 of judging shading are of one block and ratio.
     pub fn numbers(self) -> &'static [u64] {
         match self {
             UnpackRaw10 => &[1, 4],
@@ -51,6 +57,9 @@ impl Call {
             Repair => &[1, 2, 4, 5, 6],
             DefectiveRows | DefectiveColumns => &[1, 2, 4, 5, 6, 9],
             ColourRatios => &[1, 2, 3, 4, 5, 6, 9, 7, 10],
+            ShadingTable => &[1, 2, 4, 5, 6, 9],
+            ShadingRecode => &[1, 2, 3, 4, 5, 6, 9],
+            ShadingJudge => &[1, 2, 3, 4, 9, 11, 7, 10],
             PhotonTransfer => &[3, 7, 13, 14],
             Job => &[21, 20, 22, 1, 24, 23, 2, 5, 6, 7, 3],
         }
@@ -75,20 +84,26 @@ impl Call {
             return None;
         }
         match self {
-            UnpackRaw10 | PhotonTransfer => None,
+            UnpackRaw10 | ShadingJudge | PhotonTransfer => None,
             Job if (20..=23).contains(&number) => Some("byte"),
             PairFigures | DarkLevel | StackAdd | StackVariance | PatternVertical
             | PatternHorizontal | FindDefects | Repair | DefectiveRows | DefectiveColumns
-            | ColourRatios | Job => matches!(number, 5 | 6).then_some("site"),
+            | ColourRatios | ShadingTable | ShadingRecode | Job => {
+                matches!(number, 5 | 6).then_some("site")
+            }
         }
     }
 
     /// What over counts where the call refuses with a number, one of it and more; nothing where it is always 0.
     pub(crate) fn over_counts(self, number: u64) -> Option<[&'static str; 2]> {
-        (number == 6 && self.numbers().contains(&6)).then_some([
-            "sample above full scale, counted at all surveyed sites",
-            "samples above full scale, counted at all surveyed sites",
-        ])
+        (number == 6 && self.numbers().contains(&6)).then_some(match self {
+            // the one site that is read, so never more
+            ShadingRecode => ["sample above full scale, while the old or the new code is 0"; 2],
+            _ => [
+                "sample above full scale, counted at all surveyed sites",
+                "samples above full scale, counted at all surveyed sites",
+            ],
+        })
     }
 }
 
@@ -104,6 +119,10 @@ fn of_window(call: Call, number: u64) -> &'static str {
             "the black level is above full scale, in grey levels"
         }
         (3, FindDefects) => "the threshold is above 4095 grey levels",
+        (3, ShadingJudge) => {
+            "the black level is above full scale, in grey levels, or the limit is not in 1 to 16 sixteenths"
+        }
+        (3, ShadingRecode) => "the site is outside the window",
         (3, StackAdd) => "the frame count is above 100",
         (3, StackVariance | PatternVertical | PatternHorizontal) => {
             "the frame count is not in 1 to 100"
@@ -117,8 +136,22 @@ fn of_window(call: Call, number: u64) -> &'static str {
         (4, DefectiveColumns) => {
             "a buffer has not exactly the length needed: width * height codes and samples, 2 * width marks"
         }
+        (4, ShadingTable | ShadingRecode) => {
+            "a buffer has not exactly the length needed: width * height codes and samples, 4 * (blocks + 1) totals \
+             and counts"
+        }
+        (4, ShadingJudge) => {
+            "a buffer has not exactly the length needed: 4 * (blocks + 1) totals and counts, 2 * blocks of each number \
+             that is written"
+        }
         (4, _) => "a buffer has not exactly width * height elements",
+        (5, ShadingRecode) => {
+            "the site's old or new mask code is above 3 (0 surveyed, 1 gap, 2 defect, 3 filled)"
+        }
         (5, _) => "a mask code is above 3 (0 surveyed, 1 gap, 2 defect, 3 filled)",
+        (6, ShadingRecode) => {
+            "the site's sample is above full scale, in grey levels, while its old or its new code is 0"
+        }
         (6, _) => "a surveyed sample is above full scale, in grey levels",
         _ => UNKNOWN,
     }
@@ -131,16 +164,29 @@ fn of_figures(call: Call, number: u64) -> &'static str {
         (7, DarkLevel) => "no site is surveyed",
         (7, StackVariance) => "no site is surveyed, or the stack has fewer than 2 frames",
         (7, ColourRatios) => "the centre of some plane has no surveyed site",
+        (7, ShadingJudge) => {
+            "one of the ratio's two planes has no surveyed site in the block or at the centre"
+        }
         (8, _) => "a mask code is not 0",
         (9, PatternVertical) => "the width is below 12 sites",
         (9, PatternHorizontal) => "the height is below 12 sites",
         (9, DefectiveRows) => "the height is below 18 sites",
         (9, DefectiveColumns) => "the width is below 18 sites",
-        (9, ColourRatios) => "the width is below 64 sites, or the height below 48",
+        (9, ColourRatios | ShadingTable | ShadingRecode | ShadingJudge) => {
+            "the width is below 64 sites, or the height below 48"
+        }
+        (10, ShadingJudge) => {
+            "black level taken off, the total of Gr, or for B/Gb of Gb, in the block or at the centre, or that of R, \
+             or for B/Gb of B, at the centre, is not above 0 grey levels"
+        }
         (10, _) => "the Gr total, black level taken off, is not above 0 grey levels",
         (11, StackAdd | StackVariance) => IMPOSSIBLE_SUMS,
         (11, PatternVertical | PatternHorizontal) => {
             "a sum is above frames * full scale, in grey levels"
+        }
+        (11, ShadingJudge) => {
+            "a count is above its sites, 192 in a block and 768 at a centre, or a total above count * full scale, in \
+             grey levels"
         }
         (12, _) => "the stack is full: it holds 100 frames",
         _ => UNKNOWN,

@@ -1,7 +1,7 @@
-//! Tippovrain: a camera bench. Figures of noise, dark level, pattern, defects and colour from raw Bayer windows that
-//! the caller lends, and the gain from a list of such figures at several exposures. One safe function for each call of
-//! the proved C library; it allocates nothing, keeps nothing between two calls, prints nothing, and each call ends on
-//! any input.
+//! Tippovrain: a camera bench. Figures of noise, dark level, pattern, defects, colour and colour shading from raw Bayer
+//! windows that the caller lends, and the gain from a list of such figures at several exposures. One safe function for
+//! each call of the proved C library; it allocates nothing, keeps nothing between two calls, prints nothing, and each
+//! call ends on any input. Only [`ShadingTable`] and the [`Shading`] it gives allocate: they own their lists.
 //!
 //! # A first figure
 //!
@@ -32,15 +32,19 @@
 //! - **Sample**: a `u16`, in grey levels; 0 to full scale at a surveyed site, any number at any other.
 //! - **Full scale**: 1 to 4095 grey levels.
 //! - **Mask**: a code for each site: [`SURVEYED`], [`GAP`], [`DEFECT`] or [`FILLED`]. Only samples and sums at surveyed
-//!   sites are read for a figure, a verdict or a refusal.
+//!   sites are read for a figure, a verdict or a refusal. To [`shading_recode`] a site is surveyed where its old or its
+//!   new code is.
 //! - **Planes**: a window has four, by the parity of row and column: (0,0), (0,1), (1,0), (1,1), the row's first.
+//! - **Block**: 16 columns and 12 rows of a plane; a **centre** is the middle 32 columns and 24 rows of one. A
+//!   [`ShadingTable`] has for each a total of samples and a count of sites.
 //! - **Point**: what was measured at one exposure, [`Point`]: mean and variance in sixteenths.
 //!
 //! # Answers
 //!
 //! A call answers `Ok` with its figures or `Err` with a [`Refusal`]; on a refusal every buffer stays as it was. Figures
 //! are exact: whole numbers, never reduced, and a rounded `f64` only where the library itself divides. A refusal has
-//! its call, a number and a place; a 6 also says how many surveyed samples are above full scale.
+//! its call, a number and a place; a 6 also says how many surveyed samples are above full scale. A 7 or 10 of shading
+//! is of one block and ratio, beside the others' verdicts.
 //!
 //! A length cannot be misused: each goes to the library from its own slice, and one that is not exactly the length
 //! needed is refused with 4, a list of another length than 1 to 64 points with 3. Nor can a buffer that is written
@@ -75,6 +79,7 @@ mod pair;
 mod pattern;
 mod raw;
 mod refusal;
+mod shading;
 mod sites;
 mod stack;
 mod window;
@@ -90,6 +95,9 @@ pub use pair::{pair_figures, PairFigures};
 pub use pattern::{pattern_horizontal, pattern_vertical, PatternNoise};
 pub use raw::unpack_raw10;
 pub use refusal::Refusal;
+pub use shading::{
+    shading_judge, shading_recode, shading_table, BlockShading, Shading, ShadingRatio, ShadingTable,
+};
 pub use sites::{find_defects, repair};
 pub use stack::{stack_add, stack_variance};
 pub use window::{Window, DEFECT, FILLED, GAP, SURVEYED};

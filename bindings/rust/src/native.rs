@@ -9,12 +9,13 @@ struct Told {
     over: u64,
 }
 
-/// A line declares a C function of include/tippovrain.h: the call that it is, the numbers it takes, the buffers it
-/// reads, those it writes, numbers that stand after these, what it tells of a refusal, and the numbers it answers with.
-/// C's own order is the same.
+/// A line declares a C function of include/tippovrain.h: the call that it is, the numbers it takes, a buffer that it
+/// writes and that stands before those it reads, the buffers it reads, those it writes, numbers that stand after these,
+/// what it tells of a refusal, and the numbers it answers with. C's own order is the same.
 macro_rules! calls {
     ($(
         $name:ident: $call:ident($($number:ident: $number_type:ty),*)
+            $(first($early:ident: $early_type:ty))?
             reads($($read:ident: $read_type:ty),*)
             writes($($written:ident: $written_type:ty),*)
             $(then($($later:ident: $later_type:ty),*))?
@@ -25,6 +26,7 @@ macro_rules! calls {
         #[allow(clippy::too_many_arguments)]
         pub fn $call(
             $($number: $number_type,)*
+            $($early: &mut [$early_type],)?
             $($read: &[$read_type],)*
             $($written: &mut [$written_type],)*
             $($($later: $later_type,)*)?
@@ -32,6 +34,7 @@ macro_rules! calls {
             extern "C" {
                 fn $call(
                     $($number: $number_type,)*
+                    $($early: *mut $early_type, _: usize,)?
                     $($read: *const $read_type, _: usize,)*
                     $($written: *mut $written_type, _: usize,)*
                     $($($later: $later_type,)*)?
@@ -46,6 +49,7 @@ macro_rules! calls {
             let number = unsafe {
                 $call(
                     $($number,)*
+                    $($early.as_mut_ptr(), $early.len(),)?
                     $($read.as_ptr(), $read.len(),)*
                     $($written.as_mut_ptr(), $written.len(),)*
                     $($($later,)*)?
@@ -123,6 +127,22 @@ calls! {
         writes()
         tells(place, over)
         answers(r_numerator: i64, r_denominator: u64, b_numerator: i64, b_denominator: u64, gb_numerator: i64, gb_denominator: u64);
+    ShadingTable: tip_shading_table(width: usize, height: usize, full_scale: u64)
+        reads(mask: u8, frame: u16)
+        writes(totals: u32, counts: u32)
+        tells(place, over)
+        answers();
+    ShadingRecode: tip_shading_recode(width: usize, height: usize, full_scale: u64, site: usize, code: u64)
+        first(mask: u8)
+        reads(frame: u16)
+        writes(totals: u32, counts: u32)
+        tells(place, over)
+        answers();
+    ShadingJudge: tip_shading_judge(width: usize, height: usize, full_scale: u64, black_level: u64, bayer_order: u64, limit: u64)
+        reads(totals: u32, counts: u32)
+        writes(numerators: u64, denominators: u64, refusals: u8, fails: u8)
+        tells(place)
+        answers();
     PhotonTransfer: tip_photon_transfer()
         reads(points: Point)
         writes()

@@ -4,21 +4,23 @@ use crate::Call;
 use std::error::Error;
 use std::fmt;
 
-/// Why a call gave no figure. Every buffer that was lent to it is as it was.
+/// Why a call gave no figure. Every buffer that was lent to it is as it was. The 7 or 10 of a
+/// [`Shading`](crate::Shading) says why one block has no figure in one ratio; the call is accepted, and has judged the
+/// others.
 ///
 /// | number | given when |
 /// |---|---|
 /// | 1 | a side is odd or not in 2..128 sites |
 /// | 2 | the full scale is not in 1..4095 grey levels |
-/// | 3 | another parameter is out of range: a black level above full scale (dark level, colour ratios, job), a threshold above 4095 grey levels (finding defects), a frame count above 100 (stacks, pattern noise), or 0 (stack variance, pattern noise). In photon transfer: the list is empty or has more than 64 points, a point of it, chosen or not, is out of limits, or first and last are outside the list or reversed |
+/// | 3 | another parameter is out of range: a black level above full scale (dark level, colour ratios, judging shading, job), a threshold above 4095 grey levels (finding defects), a frame count above 100 (stacks, pattern noise), or 0 (stack variance, pattern noise), a limit not in 1..16 (judging shading), a site outside the window (recoding). In photon transfer: the list is empty or has more than 64 points, a point of it, chosen or not, is out of limits, or first and last are outside the list or reversed |
 /// | 4 | a buffer's length is not exactly the one needed |
-/// | 5 | a mask code is above 3 |
+/// | 5 | a mask code is above 3; in recoding the site's old or new one |
 /// | 6 | a surveyed sample is above full scale: `over` says how many are |
-/// | 7 | too few: fewer than 2 surveyed sites (pair, job), none (dark level, stack variance, a plane's centre in colour ratios), fewer than 2 frames (stack variance), or fewer than 2 chosen points (photon transfer) |
+/// | 7 | too few: fewer than 2 surveyed sites (pair, job), none (dark level, stack variance, a plane's centre in colour ratios; in shading a block or a centre of one of the ratio's two planes), fewer than 2 frames (stack variance), or fewer than 2 chosen points (photon transfer) |
 /// | 8 | pattern noise, and some mask code is not 0 |
-/// | 9 | the window is too small for the test (pattern noise, defective rows and columns, colour ratios) |
-/// | 10 | the Gr total of a colour ratio is not above 0 |
-/// | 11 | a stack's sums cannot come from its frame count (stacks, pattern noise) |
+/// | 9 | the window is too small for the test (pattern noise, defective rows and columns, colour ratios, shading) |
+/// | 10 | the Gr total of a colour ratio is not above 0; in shading Gr's, or for B/Gb Gb's, in the block or at the centre, or R's, or for B/Gb B's, at the centre |
+/// | 11 | a stack's sums cannot come from its frame count (stacks, pattern noise); in shading a count of the table is above its sites, or a total above count * full scale |
 /// | 12 | a frame is offered to a stack of 100 |
 /// | 13 | photon transfer, and all chosen means are equal |
 /// | 14 | photon transfer, and numerator or denominator is 2^53 or more in size |
@@ -33,9 +35,11 @@ use std::fmt;
 /// parameters or buffers, it does not say of which: the call's list of errors names them.
 ///
 /// They are tested in ascending number and the first that applies is given, but for [`colour_ratios`], which tests 9
-/// before 7, and [`job`], which goes by the stream.
+/// before 7, [`shading_judge`], which tests 9 and 11, of the whole call, before 7 and 10, of each block and ratio, and
+/// [`job`], which goes by the stream.
 ///
 /// [`colour_ratios`]: crate::colour_ratios
+/// [`shading_judge`]: crate::shading_judge
 /// [`job`]: crate::job
 ///
 /// ```
@@ -53,12 +57,12 @@ pub struct Refusal {
     pub call: Call,
     /// The refusal's number in the table.
     pub number: u64,
-    /// Of 5 and 6 the first offending site, numbered from 0 in row order, in its own frame; of a job's 20 to 23 an
-    /// offset in the stream, in bytes from 0; of any other 0.
+    /// Of 5 and 6 the first offending site, numbered from 0 in row order, in its own frame, and in recoding the site
+    /// that is recoded; of a job's 20 to 23 an offset in the stream, in bytes from 0; of any other 0.
     pub place: usize,
     /// Of 6 how many surveyed samples are above full scale, in all frames of the call, wherever the place is: 1 to
     /// `width * height`, and of two frames up to twice that; of any other 0. One hot site gives 1, or with two frames
-    /// 2; a wrong exposure or a wrong full scale gives many.
+    /// 2; a wrong exposure or a wrong full scale gives many. Recoding reads one site, and gives 1.
     pub over: u64,
 }
 

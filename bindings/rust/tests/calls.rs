@@ -476,6 +476,471 @@ fn colour() {
     }
 }
 
+/// 64 x 48 with R at site 0: R 164, Gr and Gb 264, B 114.
+const LEVELS: [u16; 4] = [164, 264, 264, 114];
+
+fn even_colours() -> Vec<u16> {
+    (0..64 * 48)
+        .map(|site| LEVELS[site / 64 % 2 * 2 + site % 2])
+        .collect()
+}
+
+/// Their totals and counts with every site surveyed: of each plane four blocks, then the centre.
+fn even_table() -> (Vec<u32>, Vec<u32>) {
+    let sites = |entry: usize| if entry % 5 == 4 { 768 } else { 192 };
+    (
+        (0..20)
+            .map(|entry| sites(entry) * u32::from(LEVELS[entry / 5]))
+            .collect(),
+        (0..20).map(sites).collect(),
+    )
+}
+
+/// The sites of plane (0,0), R's, in the first block.
+fn first_block() -> impl Iterator<Item = usize> {
+    (0..192).map(|i| i / 16 * 2 * 64 + i % 16 * 2)
+}
+
+#[test]
+fn shading_tables() {
+    let refused = refused(Call::ShadingTable);
+    // 2 x 2 blocks, and columns and rows left over; the centre begins at column 1 and row 1 of a plane
+    let window = window(70, 52);
+    let sites = 70 * 52;
+    let (mut mask, mut frame) = (vec![0; sites], vec![10; sites]);
+    (mask[0], frame[0]) = (GAP, 65535); // plane (0,0), in the first block alone
+    frame[3 * 70 + 2] = 17; // plane (1,0), in the first block and the centre
+    frame[2 * 70 + 33 * 2 - 1] = 15; // plane (0,1), in the centre alone
+    frame[sites - 1] = 1023; // plane (1,1), in neither
+    let (mut totals, mut counts) = (vec![9; 20], vec![8; 20]);
+    let spared = |mask: &[u8], frame: &[u16], totals: &mut [u32], counts: &mut [u32]| {
+        let answer = shading_table(window, mask, frame, totals, counts);
+        assert!(totals.iter().all(|total| *total == 9));
+        assert!(counts.iter().all(|count| *count == 8));
+        answer
+    };
+    for answer in [
+        spared(&mask[1..], &frame, &mut totals, &mut counts),
+        spared(&mask, &frame[1..], &mut totals, &mut counts),
+        spared(&mask, &frame, &mut totals[1..], &mut counts),
+        spared(&mask, &frame, &mut totals, &mut counts[1..]),
+    ] {
+        assert_eq!(answer, refused(4, 0));
+    }
+    assert_eq!(
+        shading_table(window, &mask, &frame, &mut totals, &mut counts),
+        Ok(())
+    );
+    let (mut all_totals, mut all_counts) = (vec![1920; 20], vec![192; 20]);
+    for centre in [4, 9, 14, 19] {
+        (all_totals[centre], all_counts[centre]) = (7680, 768);
+    }
+    (all_totals[0], all_counts[0]) = (1910, 191);
+    (all_totals[9], all_totals[10], all_totals[14]) = (7685, 1927, 7687);
+    assert_eq!((totals, counts), (all_totals, all_counts));
+
+    // the lengths are needed where 9 follows, and a sample above full scale is met first
+    for (window, entries) in [
+        (self::window(62, 48), 12),
+        (self::window(64, 46), 12),
+        (SMALL, 4),
+    ] {
+        let sites = window.width * window.height;
+        let call = |entries: usize| {
+            let (mut totals, mut counts) = (vec![9; entries], vec![9; entries]);
+            shading_table(
+                window,
+                &vec![GAP; sites],
+                &vec![0; sites],
+                &mut totals,
+                &mut counts,
+            )
+        };
+        assert_eq!(call(entries), refused(9, 0));
+        assert_eq!(call(20), refused(4, 0));
+    }
+    for (window, entries) in [(window, 20), (SMALL, 4)] {
+        counts_over(
+            Call::ShadingTable,
+            window.width * window.height,
+            |mask, frame| {
+                shading_table(
+                    window,
+                    mask,
+                    frame,
+                    &mut vec![9; entries],
+                    &mut vec![9; entries],
+                )
+            },
+        );
+    }
+}
+
+#[test]
+fn shading_recoded() {
+    let (refused, above) = (refused(Call::ShadingRecode), above(Call::ShadingRecode));
+    let window = window(64, 48);
+    let (mut mask, mut frame) = (vec![0; 64 * 48], even_colours());
+    let (mut totals, mut counts) = even_table();
+    let (even_totals, even_counts) = even_table();
+    (mask[9], mask[10], mask[11], frame[10], frame[11]) = (4, GAP, GAP, 1024, 65535);
+    let lent = mask.clone();
+
+    // each with all right that is tested before it, and something wrong that is tested after it
+    let dull = Window {
+        full_scale: 0,
+        ..window
+    };
+    let mut refuse = |window, site, code, cut: [usize; 4], refusal: Result<(), Refusal>| {
+        let answer = shading_recode(
+            window,
+            site,
+            code,
+            &mut mask[cut[0]..],
+            &frame[cut[1]..],
+            &mut totals[cut[2]..],
+            &mut counts[cut[3]..],
+        );
+        assert_eq!(answer, refusal);
+        assert_eq!(
+            (&mask, &totals, &counts),
+            (&lent, &even_totals, &even_counts)
+        );
+    };
+    refuse(
+        Window { width: 63, ..dull },
+        64 * 48,
+        4,
+        [1; 4],
+        refused(1, 0),
+    );
+    refuse(dull, 64 * 48, 4, [1; 4], refused(2, 0));
+    refuse(window, 64 * 48, 4, [1; 4], refused(3, 0));
+    refuse(window, usize::MAX, 4, [1; 4], refused(3, 0));
+    for cut in [[1, 0, 0, 0], [0, 1, 0, 0], [0, 0, 1, 0], [0, 0, 0, 1]] {
+        refuse(window, 10, 4, cut, refused(4, 0));
+    }
+    refuse(window, 10, 4, [0; 4], refused(5, 10));
+    refuse(window, 9, 0, [0; 4], refused(5, 9));
+    refuse(window, 10, 0, [0; 4], above(10, 1));
+
+    // a bad code elsewhere, and a gap's sample, are not asked for
+    let mut recode = |site, code| {
+        shading_recode(
+            window,
+            site,
+            code,
+            &mut mask,
+            &frame,
+            &mut totals,
+            &mut counts,
+        )
+        .unwrap();
+        (mask[site], totals.clone(), counts.clone())
+    };
+    let even = |code| (code, even_totals.clone(), even_counts.clone());
+    assert_eq!(recode(11, DEFECT), even(DEFECT));
+    let (mut less, mut fewer) = even_table();
+    (less[15], less[19]) = (less[15] - 114, less[19] - 114);
+    (fewer[15], fewer[19]) = (191, 767);
+    assert_eq!(recode(65, GAP), (GAP, less.clone(), fewer.clone()));
+    assert_eq!(recode(65, FILLED), (FILLED, less, fewer));
+    assert_eq!(recode(65, SURVEYED), even(SURVEYED));
+
+    // a table that fits no mask is amended modulo 2^32
+    let (mut totals, mut counts) = (vec![0; 20], vec![u32::MAX; 20]);
+    let mut again = |code| {
+        shading_recode(window, 0, code, &mut mask, &frame, &mut totals, &mut counts).unwrap();
+        (totals[0], totals[4], counts[0], counts[4])
+    };
+    assert_eq!(
+        again(GAP),
+        (u32::MAX - 163, u32::MAX - 163, u32::MAX - 1, u32::MAX - 1)
+    );
+    assert_eq!(again(SURVEYED), (0, 0, u32::MAX, u32::MAX));
+
+    // 9 comes last: a code above 3 and a sample above full scale are met first
+    let small = |site, code, mask: &mut [u8; 4]| {
+        shading_recode(
+            SMALL,
+            site,
+            code,
+            mask,
+            &[1024, 0, 0, 0],
+            &mut [9; 4],
+            &mut [9; 4],
+        )
+    };
+    assert_eq!(small(1, 4, &mut [0; 4]), refused(5, 1));
+    assert_eq!(small(0, 1, &mut [0; 4]), above(0, 1));
+    let mut mask = [0; 4];
+    assert_eq!(small(1, 1, &mut mask), refused(9, 0));
+    assert_eq!(mask, [0; 4]);
+}
+
+/// What judging leaves: numerators, denominators, refusals, fails.
+type Judged = (Vec<u64>, Vec<u64>, Vec<u8>, Vec<u8>);
+
+fn judged(
+    black_level: u64,
+    order: BayerOrder,
+    limit: u64,
+    totals: &[u32],
+    counts: &[u32],
+) -> Result<Judged, Refusal> {
+    let (mut up, mut down, mut refusals, mut fails) =
+        (vec![9; 8], vec![9; 8], vec![9; 8], vec![9; 8]);
+    let answer = shading_judge(
+        window(64, 48),
+        black_level,
+        order,
+        limit,
+        totals,
+        counts,
+        &mut up,
+        &mut down,
+        &mut refusals,
+        &mut fails,
+    );
+    if answer.is_err() {
+        assert_eq!((&up, &down), (&vec![9; 8], &vec![9; 8]));
+        assert_eq!((&refusals, &fails), (&vec![9; 8], &vec![9; 8]));
+    }
+    answer.map(|()| (up, down, refusals, fails))
+}
+
+#[test]
+fn shading_judged() {
+    let (mut totals, mut counts) = even_table();
+    // c and b of a ratio, levels above black
+    let under = |at_centre: u64, in_block: u64| at_centre * 768 * 768 * in_block * 192 * 192;
+    let even = |r_gr, b_gb| [[r_gr; 4], [b_gb; 4]].concat();
+    // which planes a ratio takes is told here; which of them is above, below
+    for (order, r, gr, b, gb) in [
+        (BayerOrder::R, 100, 200, 50, 200),
+        (BayerOrder::Gr, 200, 100, 200, 50),
+        (BayerOrder::B, 50, 200, 100, 200),
+        (BayerOrder::Gb, 200, 50, 200, 100),
+    ] {
+        let denominators = even(under(r, gr), under(b, gb));
+        assert_eq!(
+            judged(64, order, 1, &totals, &counts),
+            Ok((vec![0; 8], denominators, vec![0; 8], vec![0; 8]))
+        );
+    }
+
+    // R at 184 in the first block: a seventh off, the others a twenty-first
+    (totals[0], totals[4]) = (192 * 184, 768 * 169);
+    let denominators = even(under(105, 200), under(50, 200));
+    let mut numerators = vec![0; 8];
+    numerators[0] = denominators[0] / 7;
+    numerators[1..4].fill(denominators[0] / 21);
+    for (limit, fail) in [(2, 1), (3, 0)] {
+        assert_eq!(
+            judged(64, BayerOrder::R, limit, &totals, &counts),
+            Ok((
+                numerators.clone(),
+                denominators.clone(),
+                vec![0; 8],
+                [&[fail][..], &[0; 7]].concat()
+            ))
+        );
+    }
+
+    // plane (0,0) as a green: an eighth off, just two sixteenths
+    for (order, first) in [(BayerOrder::Gr, 0), (BayerOrder::Gb, 4)] {
+        for (limit, fail) in [(1, 1), (2, 0)] {
+            let (up, down, _, fails) = judged(64, order, limit, &totals, &counts).unwrap();
+            assert_eq!((up[first], down[first]), (under(30, 100), under(200, 120)));
+            assert_eq!(fails[first], fail);
+        }
+    }
+
+    // no surveyed B in the last block, and Gr of the second at black: both alone, with zeros
+    (totals[18], counts[18]) = (0, 0);
+    (totals[19], counts[19]) = (576 * 114, 576);
+    totals[6] = 192 * 64;
+    let (up, down, refusals, fails) = judged(64, BayerOrder::R, 2, &totals, &counts).unwrap();
+    assert_eq!(refusals, [0, 10, 0, 0, 0, 0, 0, 7]);
+    for refused in [1, 7] {
+        assert_eq!((up[refused], down[refused], fails[refused]), (0, 0, 0));
+    }
+    assert_eq!(
+        (up[0], down[0], fails[0]),
+        (numerators[0], denominators[0], 1)
+    );
+    assert!([0, 2, 3, 4, 5, 6].iter().all(|&at| down[at] > 0));
+}
+
+#[test]
+fn shading_not_judged() {
+    let refused = refused(Call::ShadingJudge);
+    let (totals, counts) = even_table();
+    let order = BayerOrder::R;
+    for (black_level, limit) in [(1024, 1), (64, 0), (64, 17), (64, u64::MAX)] {
+        assert_eq!(
+            judged(black_level, order, limit, &totals[1..], &counts),
+            refused(3, 0)
+        );
+    }
+    assert_eq!(judged(64, order, 1, &totals[1..], &counts), refused(4, 0));
+    assert_eq!(judged(64, order, 1, &totals, &counts[1..]), refused(4, 0));
+    for short in 0..4 {
+        let long = |at: usize| if at == short { 7 } else { 8 };
+        let answer = shading_judge(
+            window(64, 48),
+            64,
+            order,
+            1,
+            &totals,
+            &counts,
+            &mut vec![9; long(0)],
+            &mut vec![9; long(1)],
+            &mut vec![9; long(2)],
+            &mut vec![9; long(3)],
+        );
+        assert_eq!(answer.unwrap_err(), refused(4, 0).unwrap_err());
+    }
+    // one more at each entry, and 11 before 7
+    for entry in 0..20 {
+        let (mut more, mut none) = (counts.clone(), totals.clone());
+        more[entry] += 1;
+        none.fill(0);
+        assert_eq!(judged(64, order, 1, &none, &more), refused(11, 0));
+        let (mut above, mut few) = (totals.clone(), counts.clone());
+        (above[entry], few[entry]) = (1, 0);
+        assert_eq!(judged(64, order, 1, &above, &few), refused(11, 0));
+        let mut high = totals.clone();
+        high[entry] = counts[entry] * 1023;
+        assert!(judged(64, order, 1, &high, &counts).is_ok());
+        high[entry] += 1;
+        assert_eq!(judged(64, order, 1, &high, &counts), refused(11, 0));
+    }
+    // 9 before 11: no list of a window that is too small is looked at
+    let answer = shading_judge(
+        SMALL,
+        64,
+        order,
+        1,
+        &[1; 4],
+        &[0; 4],
+        &mut [],
+        &mut [],
+        &mut [],
+        &mut [],
+    );
+    assert_eq!(answer.unwrap_err(), refused(9, 0).unwrap_err());
+}
+
+#[test]
+fn shading_table_owned() {
+    let window = window(64, 48);
+    let (mut mask, mut frame) = (vec![0; 64 * 48], even_colours());
+    for site in first_block() {
+        frame[site] = 184;
+    }
+    let mut table = ShadingTable::new(window, &mask, &frame).unwrap();
+    let fresh = table.clone();
+    let (mut totals, counts) = even_table();
+    (totals[0], totals[4]) = (192 * 184, 768 * 169);
+    assert_eq!(
+        (table.window(), table.totals(), table.counts()),
+        (window, &totals[..], &counts[..])
+    );
+    assert_eq!(ShadingTable::of_lists(window, totals, counts), table);
+
+    let shading = table.judge(64, BayerOrder::R, 2).unwrap();
+    assert_eq!((shading.rows(), shading.columns()), (2, 2));
+    let block = shading.block(ShadingRatio::RGr, 0, 0).unwrap();
+    assert_eq!(block.off, unsigned(65_229_815_808_000, 456_608_710_656_000));
+    assert!(block.fails);
+    assert!(!shading.passes());
+    assert!(table.judge(64, BayerOrder::R, 3).unwrap().passes());
+
+    for site in first_block() {
+        assert_eq!(table.recode(site, GAP, &mut mask, &frame), Ok(()));
+    }
+    assert_eq!(mask.iter().filter(|code| **code == GAP).count(), 192);
+    assert_eq!(ShadingTable::new(window, &mask, &frame).unwrap(), table);
+    let shading = table.judge(64, BayerOrder::R, 2).unwrap();
+    let seven = refused::<BlockShading>(Call::ShadingJudge)(7, 0);
+    assert_eq!(shading.block(ShadingRatio::RGr, 0, 0), seven);
+    assert!(shading.block(ShadingRatio::BGb, 0, 0).is_ok());
+    assert!(!shading.passes());
+    for site in first_block() {
+        assert_eq!(table.recode(site, SURVEYED, &mut mask, &frame), Ok(()));
+    }
+    assert_eq!(table, fresh);
+    // refused, it stays
+    let not_recoded = refused::<()>(Call::ShadingRecode);
+    assert_eq!(
+        table.recode(64 * 48, GAP, &mut mask, &frame),
+        not_recoded(3, 0)
+    );
+    assert_eq!(table.recode(0, 4, &mut mask, &frame), not_recoded(5, 0));
+    assert_eq!(table, fresh);
+}
+
+/// Rows and columns of blocks where they differ: 128 x 128 has five rows of four.
+#[test]
+fn shading_grid() {
+    let window = window(128, 128);
+    let mut frame = vec![100; 128 * 128];
+    // R of one block, the third row's second: it alone fails in R/Gr
+    for i in 0..192 {
+        frame[(2 * 12 + i / 16) * 2 * 128 + (16 + i % 16) * 2] = 200;
+    }
+    let table = ShadingTable::new(window, &vec![0; 128 * 128], &frame).unwrap();
+    assert_eq!(table.totals().len(), 84);
+    let shading = table.judge(0, BayerOrder::R, 8).unwrap();
+    assert_eq!((shading.rows(), shading.columns()), (5, 4));
+    for row in 0..5 {
+        for column in 0..4 {
+            let fails = |ratio| shading.block(ratio, row, column).unwrap().fails;
+            assert_eq!(fails(ShadingRatio::RGr), (row, column) == (2, 1));
+            assert!(!fails(ShadingRatio::BGb));
+        }
+    }
+    for (row, column) in [(5, 0), (0, 4)] {
+        let outside = || shading.block(ShadingRatio::RGr, row, column);
+        assert!(std::panic::catch_unwind(outside).is_err());
+    }
+}
+
+/// Lists from elsewhere and windows out of range are refused, never a fault of the crate.
+#[test]
+fn shading_table_refused() {
+    let not_made = refused::<ShadingTable>(Call::ShadingTable);
+    for side in [0, 3, 130, usize::MAX] {
+        assert_eq!(
+            ShadingTable::new(window(side, 48), &[], &[]),
+            not_made(1, 0)
+        );
+        assert_eq!(
+            ShadingTable::new(window(64, side), &[], &[]),
+            not_made(1, 0)
+        );
+    }
+    assert_eq!(ShadingTable::new(window(64, 48), &[], &[]), not_made(4, 0));
+    assert_eq!(ShadingTable::new(SMALL, &[0; 4], &FIRST), not_made(9, 0));
+
+    let not_judged = refused::<Shading>(Call::ShadingJudge);
+    let judge = |window, totals: &[u32], counts: &[u32]| {
+        ShadingTable::of_lists(window, totals.to_vec(), counts.to_vec()).judge(64, BayerOrder::R, 1)
+    };
+    let (totals, mut counts) = even_table();
+    assert_eq!(
+        judge(window(64, usize::MAX), &totals, &counts),
+        not_judged(1, 0)
+    );
+    assert_eq!(
+        judge(window(64, 48), &totals, &counts[1..]),
+        not_judged(4, 0)
+    );
+    counts[7] = 193;
+    assert_eq!(judge(window(64, 48), &totals, &counts), not_judged(11, 0));
+}
+
 #[test]
 fn jobs() {
     let (refused, above) = (refused(Call::Job), above(Call::Job));
@@ -585,7 +1050,7 @@ fn gain_refused() {
     assert_eq!(photon_transfer(&ends, 0, 63), refused(14, 0));
 }
 
-const CALLS: [Call; 14] = [
+const CALLS: [Call; 17] = [
     Call::UnpackRaw10,
     Call::PairFigures,
     Call::DarkLevel,
@@ -598,6 +1063,9 @@ const CALLS: [Call; 14] = [
     Call::DefectiveRows,
     Call::DefectiveColumns,
     Call::ColourRatios,
+    Call::ShadingTable,
+    Call::ShadingRecode,
+    Call::ShadingJudge,
     Call::PhotonTransfer,
     Call::Job,
 ];
@@ -652,6 +1120,9 @@ fn numbers_are_the_headers() {
         ("tip_repair", Call::Repair),
         ("tip_defective_rows", Call::DefectiveRows),
         ("tip_colour_ratios", Call::ColourRatios),
+        ("tip_shading_table", Call::ShadingTable),
+        ("tip_shading_recode", Call::ShadingRecode),
+        ("tip_shading_judge", Call::ShadingJudge),
         ("tip_photon_transfer", Call::PhotonTransfer),
     ] {
         assert_eq!(header_numbers(function), call.numbers(), "{function}");
@@ -691,15 +1162,32 @@ fn words_of_the_call() {
         (Call::FindDefects, 3, "the threshold is above 4095"),
         (Call::StackAdd, 3, "the frame count is above 100"),
         (Call::StackVariance, 3, "the frame count is not in 1"),
+        (Call::ShadingRecode, 3, "the site is outside"),
+        (
+            Call::ShadingJudge,
+            3,
+            "the black level is above full scale, in grey levels, or the limit",
+        ),
         (Call::PhotonTransfer, 3, "the list is empty or"),
+        (Call::ShadingRecode, 5, "the site's old or new mask code"),
+        (Call::ShadingRecode, 6, "the site's sample is above"),
         (Call::PairFigures, 7, "fewer than 2 sites"),
         (Call::DarkLevel, 7, "no site is surveyed"),
         (Call::ColourRatios, 7, "the centre of some plane"),
+        (Call::ShadingJudge, 7, "one of the ratio's two planes"),
         (Call::PhotonTransfer, 7, "fewer than 2 points"),
         (Call::PatternVertical, 9, "the width is below 12"),
         (Call::DefectiveRows, 9, "the height is below 18"),
+        (Call::ShadingTable, 9, "the width is below 64"),
+        (Call::ColourRatios, 10, "the Gr total, black level"),
+        (
+            Call::ShadingJudge,
+            10,
+            "black level taken off, the total of Gr, or",
+        ),
         (Call::StackAdd, 11, "the sums cannot come from"),
         (Call::PatternHorizontal, 11, "a sum is above"),
+        (Call::ShadingJudge, 11, "a count is above its sites"),
         (Call::PhotonTransfer, 13, "all chosen means are equal"),
         (Call::PhotonTransfer, 14, "numerator or denominator"),
     ] {
@@ -711,6 +1199,8 @@ fn words_of_the_call() {
     assert!(needed(Call::UnpackRaw10).contains("width * height * 5 / 4 bytes"));
     assert!(needed(Call::DefectiveRows).ends_with("2 * height marks"));
     assert!(needed(Call::DefectiveColumns).ends_with("2 * width marks"));
+    assert!(needed(Call::ShadingRecode).ends_with("4 * (blocks + 1) totals and counts"));
+    assert!(needed(Call::ShadingJudge).ends_with("2 * blocks of each number that is written"));
 }
 
 /// A place is said as what it counts, and not said where it is always 0.
@@ -726,6 +1216,25 @@ fn refusals_printed() {
     begins(Call::Job, 22, 0, "refused 22 at byte 3: the length of");
     begins(Call::Job, 24, 0, "refused 24: a side of the stream's");
     begins(Call::StackAdd, 12, 0, "refused 12: the stack is full");
+    begins(
+        Call::ShadingTable,
+        6,
+        2,
+        "refused 6 at site 3: 2 samples above full scale, counted",
+    );
+    begins(
+        Call::ShadingRecode,
+        5,
+        0,
+        "refused 5 at site 3: the site's old or new",
+    );
+    begins(
+        Call::ShadingRecode,
+        6,
+        1,
+        "refused 6 at site 3: 1 sample above full scale, while",
+    );
+    begins(Call::ShadingJudge, 11, 0, "refused 11: a count is");
     begins(Call::PhotonTransfer, 3, 0, "refused 3: the list is");
     begins(
         Call::PhotonTransfer,
