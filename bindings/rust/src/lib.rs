@@ -23,7 +23,8 @@
 //! # }
 //! ```
 //!
-//! `examples/noise.rs` has the whole program; `examples/gain.rs` goes from frames at several exposures to a gain.
+//! `examples/noise.rs` has the whole program; `examples/gain.rs` goes from frames at several exposures to a gain;
+//! `examples/shading.rs` judges the blocks of a window by its centre, and recodes sites.
 //!
 //! # Units and ranges
 //!
