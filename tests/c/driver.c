@@ -541,6 +541,481 @@ static void colour_ratios(void)
     check("tip_colour_ratios", "refused 5 at 3071", has_ratios(64, 300, 50, 0, codes, 5, 3071, 0, &none));
 }
 
+/* ---- tip_shading_table, tip_shading_recode, tip_shading_judge ---- */
+
+/* What the calls share, with room for 128 x 128, which has 84 entries, and one element over. */
+static struct shaded {
+    uint8_t mask[128 * 128 + 1];
+    uint16_t frame[128 * 128 + 1];
+    uint32_t totals[85], counts[85];
+} shaded, shaded_before;
+
+/* Every site surveyed, in the order R Gr / Gb B with R 164, Gr and Gb 264, B 114; a table that no call makes. */
+static void set_shaded(size_t width)
+{
+    static const uint16_t levels[4] = {164, 264, 264, 114};
+    for (size_t i = 0; i < COUNT(shaded.mask); i++) {
+        shaded.mask[i] = 0;
+        shaded.frame[i] = levels[i / width % 2 * 2 + i % width % 2];
+    }
+    for (size_t i = 0; i < COUNT(shaded.totals); i++) {
+        shaded.totals[i] = (uint32_t)(0x80000000 + i);
+        shaded.counts[i] = (uint32_t)(0x90000000 + i);
+    }
+}
+
+/* Whether all is as before but for the table's first entries, so many of them. */
+static int shaded_but_for(size_t entries)
+{
+    for (size_t i = 0; i < COUNT(shaded.mask); i++)
+        if (shaded.mask[i] != shaded_before.mask[i] || shaded.frame[i] != shaded_before.frame[i]) return 0;
+    for (size_t i = entries; i < COUNT(shaded.totals); i++)
+        if (shaded.totals[i] != shaded_before.totals[i] || shaded.counts[i] != shaded_before.counts[i]) return 0;
+    return 1;
+}
+
+struct shaded_call {
+    const char *name;
+    uint64_t number, place, over;
+    size_t width, height;
+    uint64_t full_scale;
+    /* mask, frame, totals, counts */
+    size_t lengths[4];
+    size_t site;
+    uint64_t code;
+};
+
+/* What a refusal leaves is told here too. */
+static int answers_table(const struct shaded_call *of)
+{
+    uint64_t at = UNWRITTEN, above = UNWRITTEN;
+    shaded_before = shaded;
+    return tip_shading_table(of->width, of->height, of->full_scale, shaded.mask, of->lengths[0], shaded.frame, of->lengths[1],
+                             shaded.totals, of->lengths[2], shaded.counts, of->lengths[3], &at, &above) == of->number
+        && at == of->place && above == of->over && shaded_but_for(of->number ? 0 : of->lengths[2]);
+}
+
+/* A table with every length as it is needed. */
+static int makes_table(size_t width, size_t height, uint64_t full_scale)
+{
+    size_t sites = width * height, entries = 4 * (width / 32 * (height / 24) + 1);
+    struct shaded_call of = {"", 0, 0, 0, width, height, full_scale, {sites, sites, entries, entries}, 0, 0};
+    return answers_table(&of);
+}
+
+/* Where it is accepted, the numbers are added, modulo 2^32, to both entries, or to the one that both are; all else is as before. */
+static int answers_recode(const struct shaded_call *of, size_t block, size_t centre, uint32_t total, uint32_t count)
+{
+    uint64_t at = UNWRITTEN, above = UNWRITTEN;
+    shaded_before = shaded;
+    if (tip_shading_recode(of->width, of->height, of->full_scale, of->site, of->code, shaded.mask, of->lengths[0],
+                           shaded.frame, of->lengths[1], shaded.totals, of->lengths[2], shaded.counts, of->lengths[3],
+                           &at, &above) != of->number || at != of->place || above != of->over) return 0;
+    if (of->number == 0) {
+        shaded_before.mask[of->site] = (uint8_t)of->code;
+        shaded_before.totals[block] += total;
+        shaded_before.counts[block] += count;
+        if (centre != block) {
+            shaded_before.totals[centre] += total;
+            shaded_before.counts[centre] += count;
+        }
+    }
+    return shaded_but_for(0);
+}
+
+/* An accepted one, at 64 x 48 or 70 x 52, which have 20 entries each. */
+static int recodes(size_t width, size_t height, size_t site, uint8_t code, size_t block, size_t centre, uint32_t total, uint32_t count)
+{
+    size_t sites = width * height;
+    struct shaded_call of = {"", 0, 0, 0, width, height, 1023, {sites, sites, 20, 20}, site, code};
+    return answers_recode(&of, block, centre, total, count);
+}
+
+/* The sites of a block of a plane at 64 x 48, from 0 to 191. */
+static size_t block_site(size_t plane, size_t block, size_t i)
+{
+    size_t row = block / 2 * 12 + i / 16, column = block % 2 * 16 + i % 16;
+    return (2 * row + plane / 2) * 64 + 2 * column + plane % 2;
+}
+
+static void set_block(size_t plane, size_t block, uint16_t sample)
+{
+    for (size_t i = 0; i < 192; i++) shaded.frame[block_site(plane, block, i)] = sample;
+}
+
+/* Whether the entries are those of planes of one level each, every site surveyed. */
+static int even_table(size_t blocks, const uint32_t levels[4])
+{
+    for (size_t i = 0; i < 4 * (blocks + 1); i++) {
+        uint32_t sites = i % (blocks + 1) == blocks ? 768 : 192;
+        if (shaded.totals[i] != sites * levels[i / (blocks + 1)] || shaded.counts[i] != sites) return 0;
+    }
+    return 1;
+}
+
+static int has_entry(size_t entry, uint32_t total, uint32_t count)
+{
+    return shaded.totals[entry] == total && shaded.counts[entry] == count;
+}
+
+/* Sites of 70 x 52: a plane has 2 x 2 blocks, three columns and two rows over, and its centre begins at column 1 and row 1. */
+#define IN_BLOCK 0                       /* plane (0,0): entry 0 */
+#define IN_BOTH (3 * 70 + 2)             /* plane (1,0): entries 10 and 14 */
+#define IN_CENTRE (2 * 70 + 65)          /* plane (0,1): entry 9 */
+#define IN_NEITHER (51 * 70 + 69)        /* plane (1,1) */
+
+/* Whether a sample that grows by 5 makes the two entries' totals grow by 5, and no other; 20 is no entry. */
+static int counts_in(size_t site, size_t block, size_t centre)
+{
+    static uint32_t totals[20];
+    set_shaded(70);
+    if (!makes_table(70, 52, 1023)) return 0;
+    for (size_t i = 0; i < 20; i++) totals[i] = shaded.totals[i];
+    shaded.frame[site] += 5;
+    if (!makes_table(70, 52, 1023)) return 0;
+    for (size_t i = 0; i < 20; i++)
+        if (shaded.totals[i] != totals[i] + (i == block || i == centre ? 5 : 0)) return 0;
+    return 1;
+}
+
+static void shading_table(void)
+{
+    static const uint32_t colours[4] = {164, 264, 264, 114}, greatest[4] = {4095, 4095, 4095, 4095};
+    /* Sites 9 and 2000 have codes above 3, site 12 and the last samples above full scale, the gap at 10 and the defect at 11 more. */
+    static const struct shaded_call refused[] = {
+        {"refused 1, width 130", 1, 0, 0, 130, 48, 1023, {3072, 3072, 20, 20}, 0, 0},
+        {"refused 1, height SIZE_MAX", 1, 0, 0, 64, SIZE_MAX, 1023, {3072, 3072, 20, 20}, 0, 0},
+        {"refused 1 before 2", 1, 0, 0, 63, 48, 0, {0, 0, 0, 0}, 0, 0},
+        {"refused 2, full scale 0", 2, 0, 0, 64, 48, 0, {0, 0, 0, 0}, 0, 0},
+        {"refused 2, full scale 4096", 2, 0, 0, 64, 48, 4096, {3072, 3072, 20, 20}, 0, 0},
+        {"refused 4, mask one over", 4, 0, 0, 64, 48, 1023, {3073, 3072, 20, 20}, 0, 0},
+        {"refused 4, frame one short", 4, 0, 0, 64, 48, 1023, {3072, 3071, 20, 20}, 0, 0},
+        {"refused 4, totals one short", 4, 0, 0, 64, 48, 1023, {3072, 3072, 19, 20}, 0, 0},
+        {"refused 4, totals one over", 4, 0, 0, 64, 48, 1023, {3072, 3072, 21, 20}, 0, 0},
+        {"refused 4, counts one over", 4, 0, 0, 64, 48, 1023, {3072, 3072, 20, 21}, 0, 0},
+        {"refused 4 before 9, 20 entries for 62 x 48", 4, 0, 0, 62, 48, 1023, {2976, 2976, 20, 20}, 0, 0},
+        {"refused 5 at 9", 5, 9, 0, 64, 48, 1023, {3072, 3072, 20, 20}, 0, 0},
+        {"refused 5 at 9, before 9", 5, 9, 0, 62, 48, 1023, {2976, 2976, 12, 12}, 0, 0},
+    };
+    static const struct shaded_call above[] = {
+        {"refused 6 at 12, 2 over, beside other codes", 6, 12, 2, 64, 48, 1023, {3072, 3072, 20, 20}, 0, 0},
+        {"refused 6 at 12, 1 over, before 9", 6, 12, 1, 62, 48, 1023, {2976, 2976, 12, 12}, 0, 0},
+    };
+    static const struct shaded_call small[] = {
+        {"refused 9, 62 x 48", 9, 0, 0, 62, 48, 1023, {2976, 2976, 12, 12}, 0, 0},
+        {"refused 9, 64 x 46", 9, 0, 0, 64, 46, 1023, {2944, 2944, 12, 12}, 0, 0},
+        {"refused 9, 2 x 2", 9, 0, 0, 2, 2, 1023, {4, 4, 4, 4}, 0, 0},
+    };
+    const char *call = "tip_shading_table";
+
+    set_shaded(64);
+    check(call, "64 x 48", makes_table(64, 48, 1023) && even_table(4, colours));
+    set_block(0, 0, 184);
+    check(call, "the header's example", makes_table(64, 48, 1023) && has_entry(0, 192 * 184, 192) && has_entry(3, 192 * 164, 192)
+          && has_entry(4, 768 * 169, 768) && has_entry(5, 192 * 264, 192));
+    for (size_t i = 0; i < 64 * 48; i++) {
+        shaded.mask[i] = (uint8_t)(i % 3 + 1);
+        shaded.frame[i] = 65535;
+    }
+    shaded.mask[block_site(3, 2, 17)] = 0;
+    shaded.frame[block_site(3, 2, 17)] = 1023;
+    check(call, "one surveyed site, all else any number",
+          makes_table(64, 48, 1023) && has_entry(17, 1023, 1) && has_entry(19, 1023, 1) && has_entry(0, 0, 0) && has_entry(15, 0, 0));
+    for (size_t i = 0; i < COUNT(shaded.mask); i++) {
+        shaded.mask[i] = 0;
+        shaded.frame[i] = 4095;
+    }
+    check(call, "128 x 128, all at 4095", makes_table(128, 128, 4095) && even_table(20, greatest));
+    check(call, "a site in a block alone", counts_in(IN_BLOCK, 0, 0));
+    check(call, "a site in block and centre", counts_in(IN_BOTH, 10, 14));
+    check(call, "a site in the centre alone", counts_in(IN_CENTRE, 9, 9));
+    check(call, "a site in neither", counts_in(IN_NEITHER, 20, 20));
+
+    set_shaded(64);
+    shaded.mask[10] = 1;
+    shaded.mask[11] = 2;
+    shaded.mask[9] = 4;
+    shaded.mask[2000] = 255;
+    shaded.frame[10] = shaded.frame[11] = 65535;
+    shaded.frame[8] = 1023;
+    shaded.frame[12] = shaded.frame[3071] = 1024;
+    for (size_t i = 0; i < COUNT(refused); i++) check(call, refused[i].name, answers_table(&refused[i]));
+    shaded.mask[9] = shaded.mask[2000] = 0;
+    for (size_t i = 0; i < COUNT(above); i++) check(call, above[i].name, answers_table(&above[i]));
+    shaded.frame[12] = 0;
+    for (size_t i = 0; i < COUNT(small); i++) check(call, small[i].name, answers_table(&small[i]));
+}
+
+/* All R of a block away with codes 1, 2 and 3 in turn, by recoding; then the table is the one made afresh. */
+static int takes_block_away(size_t block)
+{
+    static uint32_t totals[20], counts[20];
+    for (size_t i = 0; i < 192; i++)
+        if (!recodes(64, 48, block_site(0, block, i), (uint8_t)(i % 3 + 1), block, 4,
+                     -(uint32_t)shaded.frame[block_site(0, block, i)], UINT32_MAX)) return 0;
+    for (size_t i = 0; i < 20; i++) {
+        totals[i] = shaded.totals[i];
+        counts[i] = shaded.counts[i];
+    }
+    if (!makes_table(64, 48, 1023)) return 0;
+    for (size_t i = 0; i < 20; i++)
+        if (!has_entry(i, totals[i], counts[i])) return 0;
+    return has_entry(block, 0, 0);
+}
+
+static void shading_recode(void)
+{
+    /* Site 9 has the code 4; site 12 is surveyed and site 10 a gap, both with a sample above full scale. */
+    static const struct shaded_call refused[] = {
+        {"refused 1, height 130", 1, 0, 0, 64, 130, 1023, {3072, 3072, 20, 20}, 0, 1},
+        {"refused 1 before 2", 1, 0, 0, 0, 48, 4096, {0, 0, 0, 0}, SIZE_MAX, 4},
+        {"refused 2 before 3", 2, 0, 0, 64, 48, 0, {0, 0, 0, 0}, SIZE_MAX, 4},
+        {"refused 3, site 3072", 3, 0, 0, 64, 48, 1023, {3072, 3072, 20, 20}, 3072, 1},
+        {"refused 3, site SIZE_MAX, before 4", 3, 0, 0, 64, 48, 1023, {0, 0, 0, 0}, SIZE_MAX, 4},
+        {"refused 4, mask one short", 4, 0, 0, 64, 48, 1023, {3071, 3072, 20, 20}, 0, 1},
+        {"refused 4, mask short of the site", 4, 0, 0, 64, 48, 1023, {0, 3072, 20, 20}, 0, 1},
+        {"refused 4, frame one over", 4, 0, 0, 64, 48, 1023, {3072, 3073, 20, 20}, 0, 1},
+        {"refused 4, totals one short", 4, 0, 0, 64, 48, 1023, {3072, 3072, 19, 20}, 0, 1},
+        {"refused 4, counts one over, before 5", 4, 0, 0, 64, 48, 1023, {3072, 3072, 20, 21}, 0, 4},
+        {"refused 4 before 9", 4, 0, 0, 62, 48, 1023, {2976, 2976, 20, 20}, 0, 1},
+        {"refused 5 at 9, the old code", 5, 9, 0, 64, 48, 1023, {3072, 3072, 20, 20}, 9, 0},
+        {"refused 5 at 12, the new code, before 6", 5, 12, 0, 64, 48, 1023, {3072, 3072, 20, 20}, 12, 4},
+        {"refused 5 at 0, code 256", 5, 0, 0, 64, 48, 1023, {3072, 3072, 20, 20}, 0, 256},
+        {"refused 5 at 3071, code 2^64 - 1", 5, 3071, 0, 64, 48, 1023, {3072, 3072, 20, 20}, 3071, UINT64_MAX},
+        {"refused 5 at 9, before 9", 5, 9, 0, 62, 48, 1023, {2976, 2976, 12, 12}, 9, 0},
+        {"refused 6 at 12, surveyed before", 6, 12, 1, 64, 48, 1023, {3072, 3072, 20, 20}, 12, 2},
+        {"refused 6 at 12, surveyed before and after", 6, 12, 1, 64, 48, 1023, {3072, 3072, 20, 20}, 12, 0},
+        {"refused 6 at 10, surveyed after", 6, 10, 1, 64, 48, 1023, {3072, 3072, 20, 20}, 10, 0},
+        {"refused 6 at 10, before 9", 6, 10, 1, 62, 48, 1023, {2976, 2976, 12, 12}, 10, 0},
+        {"refused 9, 62 x 48", 9, 0, 0, 62, 48, 1023, {2976, 2976, 12, 12}, 0, 1},
+        {"refused 9, 64 x 46", 9, 0, 0, 64, 46, 1023, {2944, 2944, 12, 12}, 0, 1},
+    };
+    const char *call = "tip_shading_recode";
+
+    set_shaded(64);
+    set_block(0, 0, 184);
+    check(call, "the header's example", makes_table(64, 48, 1023) && recodes(64, 48, 0, 1, 0, 4, -(uint32_t)184, UINT32_MAX)
+          && has_entry(0, 191 * 184, 191) && has_entry(4, 768 * 169 - 184, 767));
+    check(call, "a gap becomes a defect", recodes(64, 48, 0, 2, 0, 4, 0, 0));
+    check(call, "a defect stays one", recodes(64, 48, 0, 2, 0, 4, 0, 0));
+    check(call, "and back", recodes(64, 48, 0, 0, 0, 4, 184, 1) && has_entry(0, 192 * 184, 192) && has_entry(4, 768 * 169, 768));
+    check(call, "surveyed stays surveyed", recodes(64, 48, 0, 0, 0, 4, 0, 0));
+    check(call, "a whole block, as made afresh", takes_block_away(0));
+
+    set_shaded(64);
+    for (size_t i = 0; i < 64 * 48; i++) {
+        shaded.mask[i] = 255;
+        shaded.frame[i] = 65535;
+    }
+    shaded.mask[65] = 1;
+    check(call, "reads no other site", recodes(64, 48, 65, 3, 15, 19, 0, 0));
+    shaded.frame[65] = 1023;
+    check(call, "a sample at full scale", recodes(64, 48, 65, 0, 15, 19, 1023, 1));
+    shaded.totals[15] = shaded.counts[15] = 0;
+    shaded.totals[19] = shaded.counts[19] = UINT32_MAX;
+    check(call, "modulo 2^32, below 0", recodes(64, 48, 65, 1, 15, 19, -(uint32_t)1023, UINT32_MAX) && has_entry(15, 4294966273, UINT32_MAX));
+    shaded.totals[19] = shaded.counts[19] = UINT32_MAX;
+    check(call, "modulo 2^32, above 2^32 - 1", recodes(64, 48, 65, 0, 15, 19, 1023, 1) && has_entry(15, 0, 0) && has_entry(19, 1022, 0));
+
+    set_shaded(70);
+    for (size_t i = 0; i < COUNT(shaded.frame); i++) shaded.frame[i] = 7;
+    check(call, "a site in a block alone", recodes(70, 52, IN_BLOCK, 1, 0, 0, -(uint32_t)7, UINT32_MAX));
+    check(call, "a site in block and centre", recodes(70, 52, IN_BOTH, 2, 10, 14, -(uint32_t)7, UINT32_MAX));
+    check(call, "a site in the centre alone", recodes(70, 52, IN_CENTRE, 3, 9, 9, -(uint32_t)7, UINT32_MAX));
+    check(call, "a site in neither", recodes(70, 52, IN_NEITHER, 1, 19, 19, 0, 0));
+
+    set_shaded(64);
+    shaded.mask[9] = 4;
+    shaded.mask[10] = 1;
+    shaded.frame[10] = 65535;
+    shaded.frame[12] = 1024;
+    for (size_t i = 0; i < COUNT(refused); i++) check(call, refused[i].name, answers_recode(&refused[i], 0, 0, 0, 0));
+}
+
+struct verdicts {
+    uint64_t numerators[8], denominators[8];
+    uint8_t refusals[8], fails[8];
+};
+
+/* What the four buffers hold before a call, one element over the 8 that 64 x 48 needs. */
+#define NOT_JUDGED 99
+
+/* Lengths: totals, counts, numerators, denominators, refusals, fails. */
+static int answers_judge(size_t width, size_t height, uint64_t full_scale, uint64_t black_level, uint64_t order, uint64_t limit,
+                         const size_t lengths[6], uint64_t number, const struct verdicts *verdicts)
+{
+    uint64_t at = UNWRITTEN, numerators[9], denominators[9];
+    uint8_t refusals[9], fails[9];
+    shaded_before = shaded;
+    for (size_t i = 0; i < 9; i++) numerators[i] = denominators[i] = refusals[i] = fails[i] = NOT_JUDGED;
+    if (tip_shading_judge(width, height, full_scale, black_level, order, limit, shaded.totals, lengths[0], shaded.counts, lengths[1],
+                          numerators, lengths[2], denominators, lengths[3], refusals, lengths[4], fails, lengths[5], &at) != number
+        || at != 0 || !shaded_but_for(0)) return 0;
+    for (size_t i = 0; i < 9; i++) {
+        int written = number == 0 && i < 8;
+        if (numerators[i] != (written ? verdicts->numerators[i] : NOT_JUDGED)
+            || denominators[i] != (written ? verdicts->denominators[i] : NOT_JUDGED)
+            || refusals[i] != (written ? verdicts->refusals[i] : NOT_JUDGED)
+            || fails[i] != (written ? verdicts->fails[i] : NOT_JUDGED)) return 0;
+    }
+    return 1;
+}
+
+static const size_t judge_lengths[6] = {20, 20, 8, 8, 8, 8};
+
+static int judges(uint64_t black_level, uint64_t order, uint64_t limit, const struct verdicts *verdicts)
+{
+    return answers_judge(64, 48, 1023, black_level, order, limit, judge_lengths, 0, verdicts);
+}
+
+static int refuses_table(void)
+{
+    return answers_judge(64, 48, 1023, 64, 0, 1, judge_lengths, 11, 0);
+}
+
+/* c * b of a ratio with so many grey levels above black at the centre of R, or B, and in the block of Gr, or Gb, every site surveyed. */
+#define UNDER(at_centre, in_block) (768ULL * 768 * (at_centre) * 192 * 192 * (in_block))
+#define FOUR(x) (x), (x), (x), (x)
+
+/* The tables, as frames. */
+static void shading(void)
+{
+    static const struct verdicts even = {{0}, {FOUR(UNDER(100, 200)), FOUR(UNDER(50, 200))}, {0}, {0}};
+    static const struct verdicts dark = {{0}, {0}, {10, 10, 10, 10, 10, 10, 10, 10}, {0}};
+    /* A seventh, and a twenty-first. */
+    static struct verdicts red = {
+        {UNDER(15, 200), UNDER(5, 200), UNDER(5, 200), UNDER(5, 200)}, {FOUR(UNDER(105, 200)), FOUR(UNDER(50, 200))}, {0}, {1}};
+    /* The same frame in another order: plane (0,0) is Gr, B or Gb. As a green it is an eighth off, and a twentieth. */
+    static struct verdicts order_1 = {{UNDER(30, 100), UNDER(10, 100), UNDER(10, 100), UNDER(10, 100)},
+                                      {UNDER(200, 120), UNDER(200, 100), UNDER(200, 100), UNDER(200, 100), FOUR(UNDER(200, 50))}, {0}, {1}};
+    static const struct verdicts order_2 = {{0, 0, 0, 0, UNDER(15, 200), UNDER(5, 200), UNDER(5, 200), UNDER(5, 200)},
+                                            {FOUR(UNDER(50, 200)), FOUR(UNDER(105, 200))}, {0}, {0, 0, 0, 0, 1}};
+    static const struct verdicts order_3 = {{0, 0, 0, 0, UNDER(30, 100), UNDER(10, 100), UNDER(10, 100), UNDER(10, 100)},
+                                            {FOUR(UNDER(200, 50)), UNDER(200, 120), UNDER(200, 100), UNDER(200, 100), UNDER(200, 100)},
+                                            {0}, {0, 0, 0, 0, 1}};
+    /* 576 sites are left at R's centre. */
+    static const struct verdicts seven = {{0}, {100ULL * 576 * 768 * 200 * 192 * 192, 100ULL * 576 * 768 * 200 * 192 * 192, 0,
+                                                100ULL * 576 * 768 * 200 * 192 * 192, FOUR(UNDER(50, 200))}, {0, 0, 7}, {0}};
+    /* Gr has 150 at the centre: the other three are a quarter off. */
+    static struct verdicts ten = {{UNDER(25, 200), 0, UNDER(25, 200), UNDER(25, 200)},
+                                  {UNDER(100, 200), 0, UNDER(100, 200), UNDER(100, 200), FOUR(UNDER(50, 200))}, {0, 10}, {0}};
+    /* R of the block at 14, so 50 below black; R's centre is 62.5 above it: |-50 - 62.5| over 62.5, and for the others 37.5. */
+    static const struct verdicts below = {{UNDER(225, 100), UNDER(75, 100), UNDER(75, 100), UNDER(75, 100)},
+                                          {FOUR(UNDER(125, 100)), FOUR(UNDER(50, 200))}, {0}, {1}};
+    const char *call = "tip_shading_judge";
+
+    set_shaded(64);
+    check(call, "even colours: all numerators 0", makes_table(64, 48, 1023) && judges(64, 0, 1, &even));
+    check(call, "a black level at full scale: 10 everywhere", judges(1023, 0, 16, &dark));
+    check(call, "no R in a block, by recoding: 7 there alone", takes_block_away(2) && judges(64, 0, 1, &seven));
+    set_shaded(64);
+    set_block(0, 0, 184);
+    check(call, "R at 184 in a block: fails at 2", makes_table(64, 48, 1023) && judges(64, 0, 2, &red));
+    red.fails[0] = 0;
+    check(call, "R at 184 in a block: passes at 3", judges(64, 0, 3, &red));
+    check(call, "the same in order 1", judges(64, 1, 1, &order_1));
+    order_1.fails[0] = 0;
+    check(call, "an eighth off passes at 2", judges(64, 1, 2, &order_1));
+    check(call, "the same in order 2", judges(64, 2, 2, &order_2));
+    check(call, "the same in order 3", judges(64, 3, 1, &order_3));
+    set_shaded(64);
+    set_block(1, 1, 64);
+    check(call, "Gr at 64 in a block: 10 there alone", makes_table(64, 48, 1023) && judges(64, 0, 4, &ten));
+    ten.fails[0] = ten.fails[2] = ten.fails[3] = 1;
+    check(call, "a quarter off fails at 3", judges(64, 0, 3, &ten));
+    set_shaded(64);
+    set_block(0, 0, 14);
+    check(call, "R below black in a block", makes_table(64, 48, 1023) && judges(64, 0, 16, &below));
+}
+
+/* The even table with one centre as it is said: all four blocks of the one ratio are refused, from `first` on, and no other. */
+static int centre_refused(size_t entry, uint32_t total, uint32_t count, size_t first, uint8_t number)
+{
+    struct verdicts verdicts = {{0}, {FOUR(UNDER(100, 200)), FOUR(UNDER(50, 200))}, {0}, {0}};
+    for (size_t k = first; k < first + 4; k++) {
+        verdicts.denominators[k] = 0;
+        verdicts.refusals[k] = number;
+    }
+    set_shaded(64);
+    if (!makes_table(64, 48, 1023)) return 0;
+    shaded.totals[entry] = total;
+    shaded.counts[entry] = count;
+    return judges(64, 0, 1, &verdicts);
+}
+
+static void refused_centres(void)
+{
+    const char *call = "tip_shading_judge";
+
+    check(call, "no surveyed R at the centre: 7", centre_refused(4, 0, 0, 0, 7));
+    check(call, "no surveyed Gr at the centre: 7", centre_refused(9, 0, 0, 0, 7));
+    check(call, "no surveyed Gb at the centre: 7", centre_refused(14, 0, 0, 4, 7));
+    check(call, "no surveyed B at the centre: 7", centre_refused(19, 0, 0, 4, 7));
+    check(call, "R at black at the centre: 10", centre_refused(4, 64 * 768, 768, 0, 10));
+    check(call, "Gr at black at the centre: 10", centre_refused(9, 64 * 768, 768, 0, 10));
+    check(call, "Gb at black at the centre: 10", centre_refused(14, 64 * 768, 768, 4, 10));
+    check(call, "B at black at the centre: 10", centre_refused(19, 64 * 768, 768, 4, 10));
+}
+
+static void refused_shading(void)
+{
+    static const struct {
+        const char *name;
+        uint64_t number;
+        size_t width, height;
+        uint64_t full_scale, black_level, order, limit;
+        size_t lengths[6];
+    } refused[] = {
+        {"refused 1, width 63, before 2", 1, 63, 48, 0, 64, 0, 1, {0, 0, 0, 0, 0, 0}},
+        {"refused 1, both SIZE_MAX", 1, SIZE_MAX, SIZE_MAX, 1023, 64, 0, 1, {20, 20, 8, 8, 8, 8}},
+        {"refused 2, before 3", 2, 64, 48, 0, 64, 4, 0, {20, 20, 8, 8, 8, 8}},
+        {"refused 3, black level above full scale", 3, 64, 48, 1023, 1024, 0, 1, {20, 20, 8, 8, 8, 8}},
+        {"refused 3, order 4", 3, 64, 48, 1023, 64, 4, 1, {20, 20, 8, 8, 8, 8}},
+        {"refused 3, limit 0", 3, 64, 48, 1023, 64, 0, 0, {20, 20, 8, 8, 8, 8}},
+        {"refused 3, limit 17, before 4", 3, 64, 48, 1023, 64, 0, 17, {0, 0, 0, 0, 0, 0}},
+        {"refused 4, totals one short", 4, 64, 48, 1023, 64, 0, 1, {19, 20, 8, 8, 8, 8}},
+        {"refused 4, counts one over", 4, 64, 48, 1023, 64, 0, 1, {20, 21, 8, 8, 8, 8}},
+        {"refused 4, numerators one short", 4, 64, 48, 1023, 64, 0, 1, {20, 20, 7, 8, 8, 8}},
+        {"refused 4, denominators one over", 4, 64, 48, 1023, 64, 0, 1, {20, 20, 8, 9, 8, 8}},
+        {"refused 4, refusals one short", 4, 64, 48, 1023, 64, 0, 1, {20, 20, 8, 8, 7, 8}},
+        {"refused 4, fails one over", 4, 64, 48, 1023, 64, 0, 1, {20, 20, 8, 8, 8, 9}},
+        {"refused 4 before 9", 4, 62, 48, 1023, 64, 0, 1, {20, 20, 8, 8, 8, 8}},
+        {"refused 9, 62 x 48", 9, 62, 48, 1023, 64, 0, 1, {12, 12, 4, 4, 4, 4}},
+        {"refused 9, 64 x 46", 9, 64, 46, 1023, 64, 0, 1, {12, 12, 4, 4, 4, 4}},
+        {"refused 9, 2 x 2", 9, 2, 2, 1023, 64, 0, 1, {4, 4, 0, 0, 0, 0}},
+        {"refused 11", 11, 64, 48, 1023, 64, 0, 1, {20, 20, 8, 8, 8, 8}},
+    };
+    static const struct verdicts none = {{0}, {0}, {7, 7, 7, 7, 7, 7, 7, 7}, {0}};
+    const char *call = "tip_shading_judge";
+
+    /* what no samples can leave, by totals and by counts, so that 11 stands behind all others */
+    set_shaded(64);
+    shaded.counts[0] = 0;
+    for (size_t i = 0; i < COUNT(refused); i++)
+        check(call, refused[i].name,
+              answers_judge(refused[i].width, refused[i].height, refused[i].full_scale, refused[i].black_level, refused[i].order,
+                            refused[i].limit, refused[i].lengths, refused[i].number, 0));
+
+    for (size_t i = 0; i < 20; i++) shaded.totals[i] = shaded.counts[i] = 0;
+    check(call, "no surveyed site: 7 everywhere", judges(64, 0, 1, &none));
+    shaded.counts[12] = 193;
+    check(call, "refused 11, a count of 193, before 7", refuses_table());
+    shaded.counts[12] = 0;
+    shaded.counts[19] = 769;
+    check(call, "refused 11, a centre's count of 769", refuses_table());
+    shaded.counts[19] = 0;
+    shaded.totals[0] = 1;
+    check(call, "refused 11, a total of no site", refuses_table());
+    shaded.totals[0] = 0;
+    shaded.counts[3] = 192;
+    shaded.totals[3] = 192 * 1023;
+    check(call, "192 sites at full scale: 7 everywhere", judges(64, 0, 1, &none));
+    shaded.totals[3]++;
+    check(call, "refused 11, one above that", refuses_table());
+    shaded.totals[3] = shaded.counts[3] = UINT32_MAX;
+    check(call, "refused 11, the greatest numbers", refuses_table());
+}
+
 /* ---- tip_photon_transfer ---- */
 
 struct gain {
@@ -696,6 +1171,11 @@ int main(void)
         sites,
         lines,
         colour_ratios,
+        shading_table,
+        shading_recode,
+        shading,
+        refused_centres,
+        refused_shading,
         gains,
         refused_gains,
         job,
