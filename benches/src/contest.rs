@@ -9,8 +9,8 @@ pub type Form<I, O> = fn(&I, &mut O);
 
 pub struct Contest<I, O> {
     pub call: &'static str,
-    /// How many sites, or points, the inputs have that are timed: the first ones. The others, refusals among them, are
-    /// only compared.
+    /// How many sites, points or recodings the inputs have that are timed: the first ones. The others, refusals among
+    /// them, are only compared.
     pub timed: &'static [usize],
     pub inputs: Vec<(&'static str, I)>,
     /// What is lent to be written, as it stands before a call.

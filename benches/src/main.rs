@@ -1,9 +1,9 @@
 //! Times each call of the library at 128 x 128 (the job at 64 x 64, photon transfer on 64 points) beside the same work
 //! in plain Rust; the search for defects also at 64 x 64 and 32 x 32, and at 128 x 128 with mostly gaps and with only
-//! gaps.
+//! gaps; recoding also at 64 x 48, two recodings of one site, there and back.
 //!
 //! `bench` prints the least nanoseconds of many rounds, the library's over plain Rust's, and the library's for a site,
-//! or for a point.
+//! for a point, or for a recoding.
 //! `bench --smoke` times nothing: it runs each form once on each input and sees that all give the same answer and the
 //! same buffers.
 //!

@@ -7,6 +7,7 @@ mod job;
 mod lines;
 mod pair;
 mod pattern;
+mod shading;
 mod sites;
 mod stack;
 mod unpack_raw10;
@@ -28,6 +29,9 @@ pub fn all() -> Vec<Box<dyn Contested>> {
         Box::new(lines::rows()),
         Box::new(lines::columns()),
         Box::new(colour::contest()),
+        Box::new(shading::table()),
+        Box::new(shading::recode()),
+        Box::new(shading::judge()),
         Box::new(gain::contest()),
         Box::new(job::contest()),
     ]
