@@ -1,6 +1,6 @@
 //! Colour ratios over the centres of the four planes.
 
-use crate::shared::{refuse_if, settle, Answer, Outcome, Window};
+use crate::shared::{refuse_if, settle, Answer, Outcome, Refusal, Window};
 
 /// R/Gr, B/Gr and Gb/Gr, each as a signed numerator and a denominator.
 pub fn colour_ratios(window: Window, black_level: u64, bayer_order: u64) -> Answer {
@@ -8,7 +8,7 @@ pub fn colour_ratios(window: Window, black_level: u64, bayer_order: u64) -> Answ
 }
 
 #[derive(Clone, Copy, PartialEq)]
-enum Colour {
+pub enum Colour {
     R,
     Gr,
     B,
@@ -25,6 +25,24 @@ const PLANES: [[Colour; 4]; 4] = [
     [Gb, B, R, Gr],
 ];
 
+/// The plane of a colour, planes counted (0,0), (0,1), (1,0), (1,1).
+pub fn plane_of(colour: Colour, bayer_order: u64) -> usize {
+    PLANES[bayer_order as usize]
+        .iter()
+        .position(|&other| other == colour)
+        .expect("all four colours")
+}
+
+/// Refusal 9: a plane does not hold a centre.
+pub fn check_planes(width: usize, height: usize) -> Result<(), Refusal> {
+    refuse_if(width / 2 < 32 || height / 2 < 24, 9)
+}
+
+/// The first column and the first row of a plane's centre, 32 wide and 24 high.
+pub fn centre_of(width: usize, height: usize) -> (usize, usize) {
+    ((width / 2 - 32) / 2, (height / 2 - 24) / 2)
+}
+
 /// A centre's total of sample less black level, and its count of surveyed sites.
 struct Centre {
     total: i128,
@@ -36,13 +54,9 @@ fn ratios(window: Window, black_level: u64, bayer_order: u64) -> Outcome {
     refuse_if(black_level > window.full_scale || bayer_order > 3, 3)?;
     window.check_contents(&[])?;
     // The one exception to the ascending order: 9 before 7.
-    refuse_if(window.width / 2 < 32 || window.height / 2 < 24, 9)?;
+    check_planes(window.width, window.height)?;
     let centre = |colour| {
-        let planes = PLANES[bayer_order as usize];
-        let plane = planes
-            .iter()
-            .position(|&other| other == colour)
-            .expect("all four colours");
+        let plane = plane_of(colour, bayer_order);
         survey(&window, plane / 2, plane % 2, black_level)
     };
     let (r, gr, b, gb) = (centre(R), centre(Gr), centre(B), centre(Gb));
@@ -57,8 +71,7 @@ fn ratios(window: Window, black_level: u64, bayer_order: u64) -> Outcome {
 }
 
 fn survey(window: &Window, row_parity: usize, column_parity: usize, black_level: u64) -> Centre {
-    let left = (window.width / 2 - 32) / 2;
-    let top = (window.height / 2 - 24) / 2;
+    let (left, top) = centre_of(window.width, window.height);
     let mut centre = Centre { total: 0, count: 0 };
     for plane_row in top..top + 24 {
         for plane_column in left..left + 32 {
