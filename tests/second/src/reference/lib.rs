@@ -12,6 +12,7 @@ pub mod pair;
 pub mod pattern;
 pub mod ranking;
 pub mod raw;
+pub mod shading;
 pub mod shared;
 pub mod sites;
 pub mod stack;
