@@ -76,10 +76,17 @@ impl Tally {
     }
 
     /// Counts two cases that stand in a relation; a law that their answers break is a difference.
-    pub fn compare<C: Case>(&mut self, relation: &str, law: Law, one: &Asked<C>, other: &Asked<C>) {
+    pub fn compare<C: Case, D: Case>(
+        &mut self,
+        relation: &str,
+        law: Law,
+        one: &Asked<C>,
+        other: &Asked<D>,
+    ) {
         self.meet(relation);
         if let Err(broken) = law {
-            let [one, other] = [one, other].map(|asked| shown(&asked.case, &asked.answers));
+            let one = shown(&one.case, &one.answers);
+            let other = shown(&other.case, &other.answers);
             self.differ(|| format!("  {relation}: {broken}\n{one}\n{other}"));
         }
     }
