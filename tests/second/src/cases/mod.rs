@@ -6,17 +6,20 @@ mod dark;
 mod dice;
 mod gain;
 mod job;
+mod judge;
 mod lines;
 mod pair;
 mod pattern;
 mod points;
 mod ranking;
 mod raw;
+mod recode;
 mod shapes;
 mod sites;
 mod spoil;
 mod stack;
 mod stacks;
+mod tables;
 mod tally;
 mod totals;
 mod windows;
@@ -222,5 +225,29 @@ pub const CALLS: &[Call] = &[
         required: &[0, 3, 7, 13, 14],
         kinds: reference::transfers::KINDS,
         round: gain::photon_transfer,
+    },
+    Call {
+        name: "shading_table",
+        required: &[0, 1, 2, 4, 5, 6, 9],
+        kinds: reference::blocks::TABLE_KINDS,
+        round: tables::shading_table,
+    },
+    Call {
+        name: "count of shading_table",
+        required: &[0, 1, 2, 4, 5, 6, 9],
+        kinds: &[counts::EVERY_CALL, counts::WINDOWS, &["before 9"]],
+        round: tables::counts,
+    },
+    Call {
+        name: "shading_recode",
+        required: &[0, 1, 2, 3, 4, 5, 6, 9],
+        kinds: reference::blocks::RECODE_KINDS,
+        round: recode::shading_recode,
+    },
+    Call {
+        name: "shading_judge",
+        required: &[0, 1, 2, 3, 4, 9, 11],
+        kinds: reference::shades::KINDS,
+        round: judge::shading_judge,
     },
 ];

@@ -10,6 +10,7 @@ pub mod lines;
 pub mod pair;
 pub mod pattern;
 pub mod raw;
+pub mod shading;
 pub mod sites;
 pub mod stack;
 
