@@ -160,22 +160,28 @@ amended-areas w h site old new entries legal long =
     blocks : List ℕ
     blocks = tabulate (length entries) first
 
+-- as the code finds them: the two places, and what the two codes show
+pub amended-found : (w h site block centre was is old new : ℕ) (entries : List ℕ) → badSides w h ≡ false → length entries ≡ entriesOf w h
+    → block ≡ blockEntry w h site → centre ≡ centreEntry w h site → was ≡ old → is ≡ new
+    → amendedAt centre was is (amendedAt block was is entries) ≡ amended w h site old new entries
+amended-found w h site block centre was is old new entries legal long b c p q = rw (b, c, p, q) (amended-areas w h site old new entries legal long)
+
 -- one entry written is one amended
-pub amended-here : (at old new : ℕ) (entries : List ℕ) (v : ℕ) → at < length entries → v ≡ amend old new (held entries at) → set entries at v ≡ amendedAt at old new entries
+pub amended-set : (at old new : ℕ) (entries : List ℕ) (v : ℕ) → at < length entries → v ≡ amend old new (held entries at) → set entries at v ≡ amendedAt at old new entries
 unfolding amendedAt
-amended-here at old new entries v l e =
+amended-set at old new entries v l e =
     tabulate-set entries at v l
     ∙ tabulate-ext (length entries) (λ (k : ℕ). cond (eqb k at) v (held entries k)) (λ (k : ℕ). cond (eqb k at) (amend old new (held entries k)) (held entries k))
     (λ k b. ⊎-elim (λ t. let here = eqb-true k at t in rw (t, here) e) (λ t. rw t) (true-or-false (eqb k at)))
 
 -- past the end none is
-pub amended-nowhere : (at old new : ℕ) (entries : List ℕ) → length entries ≤ at → entries ≡ amendedAt at old new entries
+pub amended-past : (at old new : ℕ) (entries : List ℕ) → length entries ≤ at → entries ≡ amendedAt at old new entries
 unfolding amendedAt
-amended-nowhere at old new entries past =
+amended-past at old new entries past =
     tabulated (length entries) (λ (k : ℕ). cond (eqb k at) (amend old new (held entries k)) (held entries k)) entries refl
     (λ k b. rw (ne-eqb k at (λ q. lt-irrefl k (omega arith))))
 
 -- one code written
-pub recoded-here : (site code : ℕ) (mask : List ℕ) → site < length mask → set mask site code ≡ recoded site code mask
+pub recoded-set : (site code : ℕ) (mask : List ℕ) → site < length mask → set mask site code ≡ recoded site code mask
 unfolding recoded
-recoded-here site code mask l = tabulate-set mask site code l
+recoded-set site code mask l = tabulate-set mask site code l

@@ -279,13 +279,12 @@ fn amend_entry(entries: &mut [u32], at: usize, old: u32, new: u32)
     }
 }
 
-// Amends the entries in whose areas a site lies.
-fn amend_areas(width: usize, height: usize, site: usize, old: u32, new: u32, entries: &mut [u32])
-    requires { ⌜ (badSides width height ≡ false) × (site < sitesOf width height) × (length (now entries) ≡ entriesOf width height) ⌝ }
-    ensures { λ r. ⌜ now (entries .exit) ≡ amended width height site old new (now (entries .entry)) ⌝ }
+// Amends a block's entry, and then a centre's.
+fn amend_areas(entries: &mut [u32], block: usize, centre: usize, old: u32, new: u32)
+    ensures { λ r. ⌜ now (entries .exit) ≡ amendedAt centre old new (amendedAt block old new (now (entries .entry))) ⌝ }
 {
-    amend_entry(entries, block_entry(width, height, site), old, new);
-    amend_entry(entries, centre_entry(width, height, site), old, new);
+    amend_entry(entries, block, old, new);
+    amend_entry(entries, centre, old, new);
 }
 
 // Writes the code at the site, and amends the table.
@@ -308,14 +307,15 @@ fn recode(
     let sample = frame[site];
     let was = window::seen_at(old, sample) as u32;
     let is = window::seen_at(code, sample) as u32;
-    amend_areas(width, height, site, was, is, totals);
+    let block = block_entry(width, height, site);
+    let centre = centre_entry(width, height, site);
+    amend_areas(totals, block, centre, was, is);
     amend_areas(
-        width,
-        height,
-        site,
+        counts,
+        block,
+        centre,
         window::one_at(old),
         window::one_at(code),
-        counts,
     );
     mask[site] = code;
 }

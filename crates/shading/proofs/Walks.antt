@@ -1,13 +1,18 @@
--- What the walks of a table see: 11 of one entry more, and the entries of an area.
-use Prim.Native.Nat.{ℕ, _+_, _*_, _%_, _≤_, _<_}
-use mathlib.Core.Bool.{Bool, false, _||_}
+-- What the walks of a table see: which area comes next, 11 of one entry more, and the entries of an area.
+use Prim.Native.Nat.{ℕ, _+_, _-_, _*_, _/_, _%_, _≤_, _<_}
+use mathlib.Core.Bool.{Bool, false, cond, _||_}
 use mathlib.Core.List.{List}
+use mathlib.Core.Logic.{⊎-elim}
 use mathlib.Core.Path.{_≡_, refl, sym, ap, _∙_}
-use native.Mathlib.Nat.{le-trans}
+use native.Mathlib.Nat.{le-trans, add-mul, zero-mul, one-mul, mod-lt, div-add-mod'}
 use native.Mathlib.Omega.{arith}
+use lib.Arith.{digits-div, digits-mod}
+use lib.Dec.{ltb}
 use lib.ListN.{length}
+use borrow.Author.Tests.{lt-ltb, le-ltb}
 use Rattle.laws.specs.First.{someTo}
 use Rattle.laws.specs.Table.{held}
+use Rattle.laws.proofs.Cases.{lt-or-ge}
 use Rattle.laws.proofs.Firsts.{some-none, some-more}
 use Rattle.plane.specs.Plane.{sums}
 use Rattle.plane.specs.declared.Sums.{Sums}
@@ -20,16 +25,46 @@ use Rattle.shading.specs.declared.Asked.{Asked}
 use Rattle.shading.specs.declared.Planes.{Planes}
 use Rattle.shading.proofs.Entries.{InFour, entry-possible, tint-possible}
 
+-- the area of the next entry
+pub next-area : (e areas : ℕ) → 0 < areas → cond (ltb (e % areas + 1) areas) (e % areas + 1) 0 ≡ (e + 1) % areas
+next-area e areas some =
+    ⊎-elim
+    (λ l. rw (lt-ltb (e % areas + 1) areas l)
+    (sym (digits-mod (e / areas) l) ∙ ap (λ (x : ℕ). x % areas) (sum-assoc (e / areas * areas) (e % areas) ∙ ap (λ (x : ℕ). x + 1) (div-add-mod' e areas))))
+    (λ g. let full : e % areas + 1 ≡ areas = omega (arith, mod-lt e some) in
+    rw (le-ltb (e % areas + 1) areas g)
+    (sym (digits-mod (e / areas + 1) {r = 0} some) ∙ ap (λ (x : ℕ). x % areas) (next-turn (e / areas) (e % areas) areas full ∙ ap (λ (x : ℕ). x + 1) (div-add-mod' e areas))))
+    (lt-or-ge (e % areas + 1) areas)
+  where
+    sum-assoc : (x y : ℕ) → x + (y + 1) ≡ x + y + 1
+    sum-assoc x y = omega arith
+
+    next-turn : (q r n : ℕ) → r + 1 ≡ n → (q + 1) * n + 0 ≡ q * n + r + 1
+    next-turn q r n l = omega (arith, add-mul q 1 n, one-mul n)
+
+-- the ratio and the block at a place of the written buffers
+pub first-half : (j blocks : ℕ) → j < blocks → (0 ≡ j / blocks) × (j ≡ j % blocks)
+first-half j blocks l = (sym (ap (λ (x : ℕ). x / blocks) (sym (start j)) ∙ digits-div 0 l), sym (ap (λ (x : ℕ). x % blocks) (sym (start j)) ∙ digits-mod 0 l))
+  where
+    start : (j : ℕ) → 0 * blocks + j ≡ j
+    start j = omega (arith, zero-mul blocks)
+
+pub second-half : (j blocks : ℕ) → blocks ≤ j → j < 2 * blocks → (1 ≡ j / blocks) × (j - blocks ≡ j % blocks)
+second-half j blocks g l =
+    let below : j - blocks < blocks = omega arith in
+    let is : 1 * blocks + (j - blocks) ≡ j = omega (arith, one-mul blocks) in
+    (sym (ap (λ (x : ℕ). x / blocks) (sym is) ∙ digits-div 1 below), sym (ap (λ (x : ℕ). x % blocks) (sym is) ∙ digits-mod 1 below))
+
 module _ (w h : ℕ) where
   -- 11 of one entry more: where the walk begins, a turn, and its end
   module _ (full : ℕ) (totals counts : List ℕ) where
     pub asked-none : false ≡ someTo 0 (impossibleAt w h full totals counts)
     asked-none = sym (some-none _)
 
-    pub asked-more : (e sites blocks : ℕ) (found odd : Bool) → found ≡ someTo e (impossibleAt w h full totals counts)
-        → blocks ≡ blocksOf w h → sites ≡ areaSites w h (e % (blocks + 1)) → odd ≡ impossible full sites (held totals e) (held counts e)
+    pub asked-more : (e sites k : ℕ) (found odd : Bool) → found ≡ someTo e (impossibleAt w h full totals counts)
+        → k ≡ e % areasOf w h → sites ≡ areaSites w h k → odd ≡ impossible full sites (held totals e) (held counts e)
         → (found || odd) ≡ someTo (e + 1) (impossibleAt w h full totals counts)
-    asked-more e sites blocks found odd f b s o = rw (f, o, s, b) (some-more (impossibleAt w h full totals counts) e)
+    asked-more e sites k found odd f b s o = rw (f, o, s, b) (some-more (impossibleAt w h full totals counts) e)
 
     pub asked-all : (n : ℕ) (found : Bool) → found ≡ someTo n (impossibleAt w h full totals counts) → n ≡ entriesOf w h → found ≡ impossibleIn w h full totals counts
     unfolding impossibleIn

@@ -1,7 +1,8 @@
 // Colour shading: each block's ratios beside the centre's, by a block table: document 02, j.
 ghost use mathlib.Core.Bool.{cond};
 ghost use mathlib.Core.Path.{_≡_};
-ghost use Prim.Native.Nat.{_*_, _^_, _≤_, _<_};
+ghost use Prim.Native.Nat.{_+_, _*_, _/_, _%_, _^_, _≤_, _<_};
+ghost use lib.Dec.{ltb};
 ghost use lib.IntN.{natAbs};
 ghost use lib.ListN.{length};
 ghost use Rattle.laws.specs.Table.{held};
@@ -114,6 +115,14 @@ fn impossible(full: u64, sites: u32, total: u32, count: u32) -> bool
     (sites < count) | (count as u64 * full < total as u64)
 }
 
+// The area of the entry after one of area k: a division would take longer.
+fn next_area(k: usize, areas: usize) -> usize
+    requires { ⌜ (k < areas) × (areas ≤ 21) ⌝ }
+    ensures { λ r. ⌜ r ≡ cond (ltb (k + 1) areas) (k + 1) 0 ⌝ }
+{
+    if k + 1 < areas { k + 1 } else { 0 }
+}
+
 // Whether some entry of the table cannot come from a frame.
 fn some_impossible(asked: Asked, totals: &[u32], counts: &[u32]) -> bool
     requires { ⌜ (asked .full ≤ 4095) × (length (now totals) ≡ entriesOf (asked .width) (asked .height)) × (length (now counts) ≡ entriesOf (asked .width) (asked .height)) ⌝ }
@@ -121,9 +130,11 @@ fn some_impossible(asked: Asked, totals: &[u32], counts: &[u32]) -> bool
 {
     let areas = blocks::blocks(asked.width, asked.height) + 1;
     let mut found = false;
+    let mut k: usize = 0;
     for e in 0..totals.len() {
-        let sites = blocks::area_sites(asked.width, asked.height, e % areas);
+        let sites = blocks::area_sites(asked.width, asked.height, k);
         found = found | impossible(asked.full, sites, totals[e], counts[e]);
+        k = next_area(k, areas);
     }
     found
 }
@@ -270,6 +281,22 @@ fn shade_in(asked: Asked, totals: &[u32], counts: &[u32], ratio: usize, k: usize
     shade_of(asked.black as u16, asked.limit, block, centre)
 }
 
+// The ratio at place j of the written buffers, of so many blocks each.
+fn ratio_of(j: usize, blocks: usize) -> usize
+    requires { ⌜ j < 2 * blocks ⌝ }
+    ensures { λ r. ⌜ r ≡ j / blocks ⌝ }
+{
+    if j < blocks { 0 } else { 1 }
+}
+
+// The block there.
+fn block_of(j: usize, blocks: usize) -> usize
+    requires { ⌜ j < 2 * blocks ⌝ }
+    ensures { λ r. ⌜ r ≡ j % blocks ⌝ }
+{
+    if j < blocks { j } else { j - blocks }
+}
+
 // Every block of R/Gr, and then of B/Gb.
 fn judge_blocks(
     asked: Asked,
@@ -289,7 +316,8 @@ fn judge_blocks(
 {
     let blocks = blocks::blocks(asked.width, asked.height);
     for j in 0..numerators.len() {
-        let shade = shade_in(asked, totals, counts, j / blocks, j % blocks);
+        let ratio = ratio_of(j, blocks);
+        let shade = shade_in(asked, totals, counts, ratio, block_of(j, blocks));
         numerators[j] = shade.numerator;
         denominators[j] = shade.denominator;
         refusals[j] = shade.number;

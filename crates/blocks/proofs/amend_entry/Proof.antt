@@ -1,6 +1,6 @@
 -- `amend_entry` is right because it writes one entry, and past the end none.
 use borrow.Author.Needs.{needs}
-use Rattle.blocks.proofs.Entries.{amended-here, amended-nowhere}
+use Rattle.blocks.proofs.Entries.{amended-set, amended-past}
 use Rattle.blocks.proofs.amend_entry.Statement.{statement}
 use Rattle.blocks.proofs.amend_entry.Tie as tie
 
@@ -24,10 +24,10 @@ same-length c = search needs
 
 returns : tie.Need-returns
 returns c = let start = c .before .before .before .before in
-    amended-here _ _ _ (start .args .entries .now) _ (c .before .before .if1 .taken) (c .amend .ensures)
+    amended-set _ _ _ (start .args .entries .now) _ (c .before .before .if1 .taken) (c .amend .ensures)
 
 returns-2 : tie.Need-returns-2
-returns-2 c = amended-nowhere _ _ _ (c .before .before .args .entries .now) (c .if1 .left)
+returns-2 c = amended-past _ _ _ (c .before .before .args .entries .now) (c .if1 .left)
 
 pub amend-entry-spec : {M : Type 1} → statement M
 amend-entry-spec =

@@ -1,10 +1,8 @@
 -- `recode` is right because it amends totals by the sample, and counts by 1, each as the two codes show it.
-use Prim.Native.Nat.{ℕ}
-use mathlib.Core.Path.{ap₂, _∙_}
+use mathlib.Core.Path.{_∙_}
 use native.Mathlib.Omega.{arith}
 use borrow.Author.Needs.{needs}
-use Rattle.blocks.specs.Recode.{amended}
-use Rattle.blocks.proofs.Entries.{recoded-here}
+use Rattle.blocks.proofs.Entries.{amended-found, recoded-set}
 use Rattle.blocks.proofs.recode.Statement.{statement}
 use Rattle.blocks.proofs.recode.Tie as tie
 
@@ -28,6 +26,12 @@ seen-at-requires-2 c κs = search needs
 
 cast-is : tie.Need-cast-is
 cast-is c = search needs
+
+block-entry-requires : tie.Need-block-entry-requires
+block-entry-requires c κs = search needs
+
+centre-entry-requires : tie.Need-centre-entry-requires
+centre-entry-requires c κs = search needs
 
 amend-areas-requires : tie.Need-amend-areas-requires
 amend-areas-requires c κs = search needs
@@ -55,15 +59,20 @@ same-length-3 c = search needs
 
 returns : tie.Need-returns
 returns c = let counted = c .before .before in
-    let ones = counted .before .before in
-    let totalled = ones .before .before .before .before in
-    let seen = totalled .before .before in
+    let ones = counted .before in
+    let totalled = ones .before .before .before .before .before in
+    let found = totalled .before .before in
+    let seen = found .before .before in
     let start = seen .before .before .before .before .before .before .before .before in
-    let a = start .args in (
-      recoded-here (a .site) (a .code) (a .mask .now) (omega arith),
+    let a = start .args in
+    let block = found .before .block-entry .ensures in
+    let centre = found .centre-entry .ensures in (
+      recoded-set (a .site) (a .code) (a .mask .now) (omega arith),
       (
-        totalled .amend-areas .ensures ∙ ap₂ (λ (old new : ℕ). amended (a .width) (a .height) (a .site) old new (a .totals .now)) (seen .before .seen-at .ensures) (seen .seen-at2 .ensures),
-        counted .amend-areas2 .ensures ∙ ap₂ (λ (old new : ℕ). amended (a .width) (a .height) (a .site) old new (a .counts .now)) (ones .before .one-at .ensures .0) (ones .one-at2 .ensures .0),
+        totalled .amend-areas .ensures
+            ∙ amended-found (a .width) (a .height) (a .site) _ _ _ _ _ _ (a .totals .now) (start .pre .0) (start .pre .4) block centre (seen .before .seen-at .ensures) (seen .seen-at2 .ensures),
+        counted .amend-areas2 .ensures
+            ∙ amended-found (a .width) (a .height) (a .site) _ _ _ _ _ _ (a .counts .now) (start .pre .0) (start .pre .5) block centre (ones .before .one-at .ensures .0) (ones .one-at2 .ensures .0),
       ),
     )
 
@@ -78,6 +87,8 @@ recode-spec =
     cast-was
     seen-at-requires-2
     cast-is
+    block-entry-requires
+    centre-entry-requires
     amend-areas-requires
     one-at-requires
     one-at-requires-2

@@ -1,6 +1,6 @@
 -- `judge_blocks` is right because each turn stores the shade of one block and ratio more.
 use Prim.Native.Nat.{ℕ, _-_, _/_, _%_, _≤_, _<_}
-use mathlib.Core.Path.{_≡_, refl, ap, _∙_}
+use mathlib.Core.Path.{_≡_, refl, ap, ap₂, _∙_}
 use native.Mathlib.Nat.{mod-lt}
 use native.Mathlib.Omega.{arith}
 use lib.ListN.{length}
@@ -31,17 +31,18 @@ blocks-requires c κs = search needs
 loop-holds : tie.Need-loop-holds Inv-loop μ-loop
 loop-holds c = (omega arith, refl, filling-none _ _, filling-none _ _, filling-none _ _, filling-none _ _)
 
-div-shade-in : tie.Need-div-shade-in Inv-loop μ-loop
-div-shade-in c = search needs
+ratio-of-requires : tie.Need-ratio-of-requires Inv-loop μ-loop
+ratio-of-requires c κs = omega (arith, c .before .before .blocks2 .ensures .0)
 
-rem-shade-in : tie.Need-rem-shade-in Inv-loop μ-loop
-rem-shade-in c = search needs
+block-of-requires : tie.Need-block-of-requires Inv-loop μ-loop
+block-of-requires c κs = omega (arith, c .before .before .before .blocks2 .ensures .0)
 
 shade-in-requires : tie.Need-shade-in-requires Inv-loop μ-loop
-shade-in-requires c κs = let k = c .before in
+shade-in-requires c κs = let k = c .before .before .before in
     let s = Begun k in
-    let below : k .loop .j % k .before .blocks2 .result < k .before .blocks2 .result = mod-lt _ (omega (arith, k .before .blocks2 .ensures .0)) in
-    ((s .pre .0 .0, s .pre .0 .1, omega (arith, k .before .blocks2 .ensures .0)), s .pre .1)
+    let counted = k .before .blocks2 .ensures .0 in
+    let below : k .loop .j % k .before .blocks2 .result < k .before .blocks2 .result = mod-lt _ (omega (arith, counted)) in
+    ((s .pre .0 .0, s .pre .0 .1, omega (arith, below, c .block-of .ensures, counted)), s .pre .1)
 
 mul-numerators : tie.Need-mul-numerators Inv-loop μ-loop
 mul-numerators c = search needs
@@ -68,11 +69,14 @@ loop-less : tie.Need-loop-less Inv-loop μ-loop
 loop-less c = search needs
 
 loop-again : tie.Need-loop-again Inv-loop μ-loop
-loop-again c = let k = c .before .before in
+loop-again c = let k = c .before .before .before .before in
     let a = Begun k .args in
     let long = Begun k .pre .0 in
     let i = k .loop .inv in
-    let is = c .shade-in .ensures ∙ ap (λ (n : ℕ). shadeIn (a .asked) (a .totals .now) (a .counts .now) (k .loop .j / n) (k .loop .j % n)) (k .before .blocks2 .ensures .0) in (
+    let is =
+    c .shade-in .ensures
+    ∙ ap₂ (shadeIn (a .asked) (a .totals .now) (a .counts .now)) (c .before .before .ratio-of .ensures) (c .before .block-of .ensures)
+    ∙ ap (λ (n : ℕ). shadeIn (a .asked) (a .totals .now) (a .counts .now) (k .loop .j / n) (k .loop .j % n)) (k .before .blocks2 .ensures .0) in (
       omega arith,
       refl,
       filling-more _ (i .2) (omega (arith, i .2 .long)) (ap (λ (s : Shade). s .numerator) is),
@@ -115,8 +119,8 @@ judge-blocks-spec =
     μ-loop
     blocks-requires
     loop-holds
-    div-shade-in
-    rem-shade-in
+    ratio-of-requires
+    block-of-requires
     shade-in-requires
     mul-numerators
     slice-write-numerators
