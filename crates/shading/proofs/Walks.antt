@@ -1,4 +1,4 @@
--- What the walks of a table see: which area comes next, 11 of one entry more, and the entries of an area.
+-- What the walks of a table see: which area comes next, 11 of one entry more, the entries of an area, and both halves of a buffer.
 use Prim.Native.Nat.{ℕ, _+_, _-_, _*_, _/_, _%_, _≤_, _<_}
 use mathlib.Core.Bool.{Bool, false, cond, _||_}
 use mathlib.Core.List.{List}
@@ -14,15 +14,17 @@ use Rattle.laws.specs.First.{someTo}
 use Rattle.laws.specs.Table.{held}
 use Rattle.laws.proofs.Cases.{lt-or-ge}
 use Rattle.laws.proofs.Firsts.{some-none, some-more}
+use Rattle.laws.proofs.Tables.{tabulated, Storing}
 use Rattle.plane.specs.Plane.{sums}
 use Rattle.plane.specs.declared.Sums.{Sums}
 use Rattle.blocks.specs.Areas.{blocksOf, areasOf, areaSites, entriesOf}
 use Rattle.blocks.proofs.Areas.{sites-few, entry-below}
 use Rattle.shading.specs.Shade.{tint}
-use Rattle.shading.specs.Judge.{impossible, impossibleAt, impossibleIn, tintOf}
-use Rattle.shading.specs.Walk.{Whole, Possible}
+use Rattle.shading.specs.Judge.{impossible, impossibleAt, impossibleIn, tintOf, shadeIn, shadeAt, shadesOf}
+use Rattle.shading.specs.Walk.{Whole, Possible, Stored}
 use Rattle.shading.specs.declared.Asked.{Asked}
 use Rattle.shading.specs.declared.Planes.{Planes}
+use Rattle.shading.specs.declared.Shade.{Shade}
 use Rattle.shading.proofs.Entries.{InFour, entry-possible, tint-possible}
 
 -- the area of the next entry
@@ -42,18 +44,35 @@ next-area e areas some =
     next-turn : (q r n : ℕ) → r + 1 ≡ n → (q + 1) * n + 0 ≡ q * n + r + 1
     next-turn q r n l = omega (arith, add-mul q 1 n, one-mul n)
 
--- the ratio and the block at a place of the written buffers
-pub first-half : (j blocks : ℕ) → j < blocks → (0 ≡ j / blocks) × (j ≡ j % blocks)
-first-half j blocks l = (sym (ap (λ (x : ℕ). x / blocks) (sym (start j)) ∙ digits-div 0 l), sym (ap (λ (x : ℕ). x % blocks) (sym (start j)) ∙ digits-mod 0 l))
-  where
-    start : (j : ℕ) → 0 * blocks + j ≡ j
-    start j = omega (arith, zero-mul blocks)
+-- what a walk of one ratio's blocks has stored at its end
+pub half-stored : {part : Shade → ℕ} {given : Asked} {totals counts d l : List ℕ} {ratio blocks first k : ℕ}
+    → first ≡ ratio * blocks → blocks ≡ blocksOf (given .width) (given .height) → k ≡ blocks
+    → Storing (λ (i : ℕ). part (shadeIn given totals counts ratio i)) d l first k → Stored part given totals counts ratio d l
+half-stored {part} {given} {totals} {counts} {d} {l} {ratio} {blocks} {first} {k} f b e s =
+    let at : first ≡ ratio * blocksOf (given .width) (given .height) = f ∙ ap (λ (n : ℕ). ratio * n) b in
+    record {
+      long = s .long;
+      kept = λ j low. s .before j (omega (arith, at));
+      stored = λ i low. rw (← at) (s .stored i (omega (arith, b, e)));
+    }
 
-pub second-half : (j blocks : ℕ) → blocks ≤ j → j < 2 * blocks → (1 ≡ j / blocks) × (j - blocks ≡ j % blocks)
-second-half j blocks g l =
-    let below : j - blocks < blocks = omega arith in
-    let is : 1 * blocks + (j - blocks) ≡ j = omega (arith, one-mul blocks) in
-    (sym (ap (λ (x : ℕ). x / blocks) (sym is) ∙ digits-div 1 below), sym (ap (λ (x : ℕ). x % blocks) (sym is) ∙ digits-mod 1 below))
+-- both halves of a buffer are all of it
+pub both-halves : (part : Shade → ℕ) (given : Asked) (totals counts lent first second : List ℕ) → length lent ≡ 2 * blocksOf (given .width) (given .height)
+    → Stored part given totals counts 0 lent first → Stored part given totals counts 1 first second → second ≡ shadesOf part given totals counts
+both-halves part given totals counts lent first second long r b =
+    tabulated (2 * blocks) (λ (j : ℕ). part (shadeAt given totals counts j)) second (b .long ∙ r .long ∙ long)
+    (λ j l. ⊎-elim
+    (λ low. b .kept j (omega (arith, one-mul blocks)) ∙ at 0 j j low (omega (arith, zero-mul blocks)) first (r .stored j low))
+    (λ high. at 1 (j - blocks) j (omega arith) (omega (arith, one-mul blocks)) second (b .stored (j - blocks) (omega arith)))
+    (lt-or-ge j blocks))
+  where
+    blocks : ℕ
+    blocks = blocksOf (given .width) (given .height)
+
+    at : (ratio k j : ℕ) → k < blocks → ratio * blocks + k ≡ j → (l : List ℕ) → held l (ratio * blocks + k) ≡ part (shadeIn given totals counts ratio k)
+        → held l j ≡ part (shadeAt given totals counts j)
+    at ratio k j below is l e =
+        rw (← is, digits-div ratio below, digits-mod ratio below) e
 
 module _ (w h : ℕ) where
   -- 11 of one entry more: where the walk begins, a turn, and its end

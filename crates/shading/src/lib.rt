@@ -1,7 +1,7 @@
 // Colour shading: each block's ratios beside the centre's, by a block table: document 02, j.
 ghost use mathlib.Core.Bool.{cond};
 ghost use mathlib.Core.Path.{_≡_};
-ghost use Prim.Native.Nat.{_+_, _*_, _/_, _%_, _^_, _≤_, _<_};
+ghost use Prim.Native.Nat.{_+_, _*_, _^_, _≤_, _<_};
 ghost use lib.Dec.{ltb};
 ghost use lib.IntN.{natAbs};
 ghost use lib.ListN.{length};
@@ -9,8 +9,8 @@ ghost use Rattle.laws.specs.Table.{held};
 ghost use Rattle.plane.specs.Plane.{sums};
 ghost use Rattle.blocks.specs.Areas.{blocksOf, areasOf, areaSites, entriesOf};
 ghost use Rattle.shading.specs.Shade.{unseen, tooDark, fails, refusedShade, judgedShade, shadeOf};
-ghost use Rattle.shading.specs.Judge.{badLimit, askedVerdict, blocksLength, lengthsVerdict, impossible, impossibleIn, lentVerdict, judgeVerdict, planesOf, tintOf, shadeIn, shadesOf, asked, lengths, judgeAnswer, paperOf, judgePaper, judgeNumerators, judgeDenominators, judgeRefusals, judgeFails};
-ghost use Rattle.shading.specs.Walk.{Whole, Possible};
+ghost use Rattle.shading.specs.Judge.{badLimit, askedVerdict, blocksLength, lengthsVerdict, impossible, impossibleIn, lentVerdict, judgeVerdict, planesOf, tintOf, shadesOf, asked, lengths, judgeAnswer, paperOf, judgePaper, judgeNumerators, judgeDenominators, judgeRefusals, judgeFails};
+ghost use Rattle.shading.specs.Walk.{Whole, Possible, Stored};
 use colour::Ratio;
 use plane::Sums;
 use verdict::Refusal;
@@ -268,33 +268,36 @@ fn shade_of(black: u16, limit: u64, block: Tint, centre: Tint) -> Shade
     )
 }
 
-// Block k of a ratio beside the centre.
-fn shade_in(asked: Asked, totals: &[u32], counts: &[u32], ratio: usize, k: usize) -> Shade
-    requires { ⌜ (asked .black ≤ 4095) × (asked .limit ≤ 16) × (k < blocksOf (asked .width) (asked .height)) ⌝ }
+// Every block of one ratio beside its centre: the buffers have those of R/Gr, and then those of B/Gb.
+fn judge_ratio(
+    asked: Asked,
+    totals: &[u32],
+    counts: &[u32],
+    ratio: usize,
+    numerators: &mut [u64],
+    denominators: &mut [u64],
+    refusals: &mut [u8],
+    fails: &mut [u8],
+)
+    requires { ⌜ (asked .black ≤ 4095) × (asked .limit ≤ 16) × (ratio < 2) × (length (now numerators) ≡ 2 * blocksOf (asked .width) (asked .height)) × (length (now denominators) ≡ 2 * blocksOf (asked .width) (asked .height)) × (length (now refusals) ≡ 2 * blocksOf (asked .width) (asked .height)) × (length (now fails) ≡ 2 * blocksOf (asked .width) (asked .height)) ⌝ }
     requires { ⌜ Whole asked (now totals) (now counts) ⌝ }
-    ensures { λ r. ⌜ r ≡ shadeIn asked (now (totals .entry)) (now (counts .entry)) ratio k ⌝ }
+    ensures { λ r. ⌜ Stored (λ (s : Shade). s .numerator) asked (now (totals .entry)) (now (counts .entry)) ratio (now (numerators .entry)) (now (numerators .exit)) ⌝ }
+    ensures { λ r. ⌜ Stored (λ (s : Shade). s .denominator) asked (now (totals .entry)) (now (counts .entry)) ratio (now (denominators .entry)) (now (denominators .exit)) ⌝ }
+    ensures { λ r. ⌜ Stored (λ (s : Shade). s .number) asked (now (totals .entry)) (now (counts .entry)) ratio (now (refusals .entry)) (now (refusals .exit)) ⌝ }
+    ensures { λ r. ⌜ Stored (λ (s : Shade). s .fail) asked (now (totals .entry)) (now (counts .entry)) ratio (now (fails .entry)) (now (fails .exit)) ⌝ }
 {
     let of = planes_of(asked.order, ratio);
-    let last = blocks::blocks(asked.width, asked.height);
-    let block = tint_at(asked, totals, counts, of, k);
-    let centre = tint_at(asked, totals, counts, of, last);
-    shade_of(asked.black as u16, asked.limit, block, centre)
-}
-
-// The ratio at place j of the written buffers, of so many blocks each.
-fn ratio_of(j: usize, blocks: usize) -> usize
-    requires { ⌜ j < 2 * blocks ⌝ }
-    ensures { λ r. ⌜ r ≡ j / blocks ⌝ }
-{
-    if j < blocks { 0 } else { 1 }
-}
-
-// The block there.
-fn block_of(j: usize, blocks: usize) -> usize
-    requires { ⌜ j < 2 * blocks ⌝ }
-    ensures { λ r. ⌜ r ≡ j % blocks ⌝ }
-{
-    if j < blocks { j } else { j - blocks }
+    let blocks = blocks::blocks(asked.width, asked.height);
+    let centre = tint_at(asked, totals, counts, of, blocks);
+    let first = ratio * blocks;
+    for k in 0..blocks {
+        let block = tint_at(asked, totals, counts, of, k);
+        let shade = shade_of(asked.black as u16, asked.limit, block, centre);
+        numerators[first + k] = shade.numerator;
+        denominators[first + k] = shade.denominator;
+        refusals[first + k] = shade.number;
+        fails[first + k] = shade.fail;
+    }
 }
 
 // Every block of R/Gr, and then of B/Gb.
@@ -314,15 +317,26 @@ fn judge_blocks(
     ensures { λ r. ⌜ now (refusals .exit) ≡ shadesOf (λ (s : Shade). s .number) asked (now (totals .entry)) (now (counts .entry)) ⌝ }
     ensures { λ r. ⌜ now (fails .exit) ≡ shadesOf (λ (s : Shade). s .fail) asked (now (totals .entry)) (now (counts .entry)) ⌝ }
 {
-    let blocks = blocks::blocks(asked.width, asked.height);
-    for j in 0..numerators.len() {
-        let ratio = ratio_of(j, blocks);
-        let shade = shade_in(asked, totals, counts, ratio, block_of(j, blocks));
-        numerators[j] = shade.numerator;
-        denominators[j] = shade.denominator;
-        refusals[j] = shade.number;
-        fails[j] = shade.fail;
-    }
+    judge_ratio(
+        asked,
+        totals,
+        counts,
+        0,
+        numerators,
+        denominators,
+        refusals,
+        fails,
+    );
+    judge_ratio(
+        asked,
+        totals,
+        counts,
+        1,
+        numerators,
+        denominators,
+        refusals,
+        fails,
+    );
 }
 
 // The numbers of a call.
