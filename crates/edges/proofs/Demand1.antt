@@ -61,6 +61,16 @@ use Rattle.stream.specs.Stream.{widthOf, heightOf, fullOf, maskOf, firstOf, sec
 use Rattle.stream.specs.Job.{jobVerdict, jobPaper}
 use Rattle.stream.specs.Job as jobs
 use Rattle.stream.proofs.Promises as stream
+use Rattle.blocks.specs.Table.{tableVerdict, tablePaper, tableTotals, tableCounts}
+use Rattle.blocks.specs.Table as block-tables
+use Rattle.blocks.specs.Recode.{recodeVerdict, recodePaper, recodeMask, recodeTotals, recodeCounts}
+use Rattle.blocks.specs.Recode as recoding
+use Rattle.blocks.proofs.Judged.{table-tests, recode-tests}
+use Rattle.blocks.proofs.Promises as blocks
+use Rattle.shading.specs.Judge.{asked, lengths, judgeVerdict, judgePaper, judgeNumerators, judgeDenominators, judgeRefusals, judgeFails}
+use Rattle.shading.specs.Judge as judging
+use Rattle.shading.proofs.Judging as judge-table
+use Rattle.shading.proofs.Promises as shading
 
 -- of one call that cannot give 6: what it tests, the numbers of its answer, and what else is so where it refuses
 pub record Refusing {F : Type 0} (verdict : Verdict) (tests : List Test) (paper : Paper F) (Untouched : Type 0) : Type 0 where
@@ -130,13 +140,34 @@ pub record Demand1 : Type 0 where
       → let paper = transferPaper c first last in
       Refusing (transferVerdict c first last) (gain.tests c first last) paper
       (paper .figures ≡ transfers.noGain)
+  pub shading-table : (w h full : ℕ) (mask frame totals counts : List ℕ)
+      → let paper = tablePaper w h full mask frame (length totals) (length counts) in
+      RefusingOver (tableVerdict w h full mask frame (length totals) (length counts)) (table-tests w h full mask frame (length totals) (length counts)) paper (overFull w h full (seen mask frame))
+      ((tableTotals w h full mask frame totals counts ≡ totals) × (tableCounts w h full mask frame totals counts ≡ counts))
+  -- of its one site, which counts as surveyed by the old or the new code: at 6 the count is 1
+  pub shading-recode : (w h full site code : ℕ) (mask frame totals counts : List ℕ)
+      → let paper = recodePaper w h full site code mask frame (length totals) (length counts) in
+      RefusingOver (recodeVerdict w h full site code mask frame (length totals) (length counts)) (recode-tests w h full site code mask frame (length totals) (length counts)) paper 1
+      ((recodeMask w h full site code mask frame (length totals) (length counts) ≡ mask)
+      × (recodeTotals w h full site code mask frame totals counts ≡ totals)
+      × (recodeCounts w h full site code mask frame totals counts ≡ counts))
+  -- its 7 and 10 are no refusals of the call: they stand in a buffer, each of one block and ratio
+  pub shading-judge : (w h full black order limit : ℕ) (totals counts numerators denominators refusals fails : List ℕ)
+      → let call = asked w h full black order limit in
+      let long = lengths (length numerators) (length denominators) (length refusals) (length fails) in
+      let paper = judgePaper call long totals counts in
+      Refusing (judgeVerdict call long totals counts) (judge-table.tests call long totals counts) paper
+      ((judgeNumerators call long totals counts numerators ≡ numerators)
+      × (judgeDenominators call long totals counts denominators ≡ denominators)
+      × (judgeRefusals call long totals counts refusals ≡ refusals)
+      × (judgeFails call long totals counts fails ≡ fails))
   pub job : (s : List ℕ)
       → let paper = jobPaper s in
       RefusingOver (jobVerdict s) (stream.tests s) paper (overFull (widthOf s) (heightOf s) (fullOf s) (seen (maskOf s) (firstOf s)) + overFull (widthOf s) (heightOf s) (fullOf s) (seen (maskOf s) (secondOf s)))
       (paper .figures ≡ jobs.noFigures)
 
 pub demand-1 : Demand1
-unfolding unpackPaper pairPaper darkPaper addPaper variance.variancePaper patternPaper findPaper repairPaper linesPaper colourPaper transferPaper jobPaper
+unfolding unpackPaper pairPaper darkPaper addPaper variance.variancePaper patternPaper findPaper repairPaper linesPaper colourPaper transferPaper tablePaper recodePaper judgePaper jobPaper
 demand-1 = record {
   unpack-raw10 = λ w h bytes out. record { given = raw.given w h bytes out; told = (refl, refl, never-over _ (raw.given w h bytes out) refl refl); refused = raw.refused w h bytes out };
   pair-figures = λ w h full mask first second. record { given = pair.given w h full mask first second; told = (refl, refl, refl); refused = pair.refused w h full mask first second };
@@ -149,6 +180,13 @@ demand-1 = record {
   defective-lines = λ lines w h full mask frame marks. record { given = marking.given lines w h full mask frame marks; told = (refl, refl, refl); refused = marking.refused lines w h full mask frame marks };
   colour-ratios = λ w h full black order mask frame. record { given = colour.given w h full black order mask frame; told = (refl, refl, refl); refused = colour.refused w h full black order mask frame };
   photon-transfer = λ c first last. record { given = gain.given c first last; told = (refl, refl, never-over _ (gain.given c first last) refl refl); refused = gain.refused c first last };
+  shading-table = λ w h full mask frame totals counts. record { given = blocks.table-given w h full mask frame totals counts; told = (refl, refl, refl); refused = blocks.table-refused w h full mask frame totals counts };
+  shading-recode = λ w h full site code mask frame totals counts. record { given = blocks.recode-given w h full site code mask frame totals counts; told = (refl, refl, refl); refused = blocks.recode-refused w h full site code mask frame totals counts };
+  shading-judge = λ w h full black order limit totals counts numerators denominators refusals fails. record {
+    given = shading.given (asked w h full black order limit) totals counts numerators denominators refusals fails;
+    told = (refl, refl, shading.no-over (asked w h full black order limit) totals counts numerators denominators refusals fails);
+    refused = shading.refused (asked w h full black order limit) totals counts numerators denominators refusals fails;
+  };
   job = λ s. record { given = stream.given s; told = (refl, refl, refl); refused = stream.refused s };
 }
 
@@ -177,6 +215,15 @@ pub record Numbers : Type 0 where
       → ratios.paperOf (ratios.colourAnswer w h full black order mask frame) ≡ colourPaper w h full black order mask frame
   pub photon-transfer : (c : Curve) (first last : ℕ)
       → transfers.paperOf (transfers.transferAnswer c first last) ≡ transferPaper c first last
+  pub shading-table : (w h full : ℕ) (mask frame totals counts : List ℕ)
+      → block-tables.paperOf (block-tables.tableAnswer w h full mask frame (length totals) (length counts)) ≡ tablePaper w h full mask frame (length totals) (length counts)
+  pub shading-recode : (w h full site code : ℕ) (mask frame totals counts : List ℕ)
+      → block-tables.paperOf (recoding.recodeAnswer w h full site code mask frame (length totals) (length counts))
+      ≡ recodePaper w h full site code mask frame (length totals) (length counts)
+  pub shading-judge : (w h full black order limit : ℕ) (totals counts numerators denominators refusals fails : List ℕ)
+      → let call = asked w h full black order limit in
+      let long = lengths (length numerators) (length denominators) (length refusals) (length fails) in
+      judging.paperOf (judging.judgeAnswer call long totals counts) ≡ judgePaper call long totals counts
   pub job : (s : List ℕ)
       → jobs.paperOf (jobs.jobAnswer s) ≡ jobPaper s
 
@@ -193,5 +240,8 @@ numbers = record {
   defective-lines = marking.paper-is;
   colour-ratios = colour.paper-is;
   photon-transfer = gain.paper-is;
+  shading-table = blocks.table-paper-is;
+  shading-recode = blocks.recode-paper-is;
+  shading-judge = λ w h full black order limit. shading.paper-is (asked w h full black order limit);
   job = stream.paper-is;
 }

@@ -1,12 +1,12 @@
 -- Demand 2: in every call that takes a mask only surveyed sites count: what a frame holds at any other site changes no figure, no verdict,
--- no refusal, nor the count that a 6 has (document 02, d). And no call turns a gap into anything else. `Agree mask f g`: f and g have one length,
--- and hold the same at every surveyed site. Answers are compared, a refusal's number, place and count among them; the paper's numbers are those
--- of the answer (`numbers` of Demand1), so they are the same too.
+-- no refusal, nor the count that a 6 has (document 02, d). And no call turns a gap into anything else, but for the one site whose code its caller
+-- asks to have changed (document 02, j). `Agree mask f g`: f and g have one length, and hold the same at every surveyed site. Answers are compared,
+-- a refusal's number, place and count among them; the paper's numbers are those of the answer (`numbers` of Demand1), so they are the same too.
 use Prim.Native.Nat.{ℕ, _<_}
 use mathlib.Core.Bool.{true}
 use mathlib.Core.List.{List}
 use mathlib.Core.Logic.{_⊎_}
-use mathlib.Core.Path.{_≡_}
+use mathlib.Core.Path.{_≡_, refl}
 use lib.ListN.{length, getD}
 use Rattle.verdict.specs.declared.Verdict.the-variants as verdict
 use Rattle.window.specs.Shape.{sitesOf}
@@ -35,6 +35,10 @@ use Rattle.colour.proofs.Promises as colour
 use Rattle.stream.specs.Stream.{streamVerdict}
 use Rattle.stream.specs.Job.{jobAnswer}
 use Rattle.stream.proofs.Promises as stream
+use Rattle.blocks.specs.Table.{tableAnswer, tableTotals, tableCounts}
+use Rattle.blocks.specs.Recode.{recodeVerdict, recodeMask}
+use Rattle.blocks.proofs.Judged.{recode-done}
+use Rattle.blocks.proofs.Promises as blocks
 
 -- ---- only surveyed sites count
 pub record Blind : Type 0 where
@@ -78,10 +82,23 @@ pub record Blind : Type 0 where
       × (linesBuffer lines w h full mask frame marks ≡ linesBuffer lines w h full mask other marks)
   pub colour-ratios : (w h full black order : ℕ) (mask frame other : List ℕ) → Agree mask frame other
       → colourAnswer w h full black order mask frame ≡ colourAnswer w h full black order mask other
+  pub shading-table : (w h full : ℕ) (mask frame totals counts other : List ℕ) → Agree mask frame other
+      → (tableAnswer w h full mask frame (length totals) (length counts) ≡ tableAnswer w h full mask other (length totals) (length counts))
+      × (tableTotals w h full mask frame totals counts ≡ tableTotals w h full mask other totals counts)
+      × (tableCounts w h full mask frame totals counts ≡ tableCounts w h full mask other totals counts)
+  -- the site counts as surveyed when its old or its new code is 0 (document 02, j), no other counts: the answer and the table (`blocks.Alike`), and the mask
+  pub shading-recode : (w h full site code : ℕ) (mask frame totals counts other : List ℕ) → length frame ≡ length other
+      → ((getD mask site 0 ≡ 0) ⊎ (code ≡ 0) → getD frame site 0 ≡ getD other site 0)
+      → blocks.Alike w h full site code mask frame mask other totals counts
+      × (recodeMask w h full site code mask frame (length totals) (length counts) ≡ recodeMask w h full site code mask other (length totals) (length counts))
+  -- nor does another site's code change the answer or the table
+  pub recode-one-site : (w h full site code : ℕ) (mask frame totals counts mask′ frame′ : List ℕ) → length mask ≡ length mask′ → length frame ≡ length frame′
+      → getD mask site 0 ≡ getD mask′ site 0 → getD frame site 0 ≡ getD frame′ site 0
+      → blocks.Alike w h full site code mask frame mask′ frame′ totals counts
   -- two streams of one window, full scale, black level and mask, whose frames agree at the surveyed sites, and which have one fault or none
   pub job : (s t : List ℕ) → stream.Alike s t → streamVerdict s ≡ streamVerdict t → jobAnswer s ≡ jobAnswer t
 
--- ---- a gap stays a gap, in the two masks that are written
+-- ---- a gap stays a gap, in the two masks that are written anew; and in the one that is recoded, but at the site that the caller names
 pub record Gaps : Type 0 where
   pub find-defects : (w h full t : ℕ) (mask frame out : List ℕ) → findVerdict w h full t mask frame (length out) ≡ verdict.Clear
       → (i : ℕ) → i < sitesOf w h → getD mask i 0 ≡ 1 → getD (findMask w h full t mask frame out) i 0 ≡ 1
@@ -91,6 +108,10 @@ pub record Gaps : Type 0 where
       → (i : ℕ) → i < sitesOf w h → getD mask i 0 ≡ 1
       → (getD (repairMask w h full mask frame (length outFrame) outMask) i 0 ≡ 1)
       × (getD (repairFrame w h full mask frame outFrame (length outMask)) i 0 ≡ getD frame i 0)
+  -- the caller may recode a gap (document 02, j): the named site gets the code that was handed in, and every other site, gap or not, keeps its own
+  pub shading-recode : (w h full site code : ℕ) (mask frame totals counts : List ℕ)
+      → recodeVerdict w h full site code mask frame (length totals) (length counts) ≡ verdict.Clear
+      → blocks.OneCode site code mask (recodeMask w h full site code mask frame (length totals) (length counts))
 
 pub record Demand2 : Type 0 where
   pub blind : Blind
@@ -112,7 +133,15 @@ demand-2 = record {
     repaired-samples = repairing.blind-samples;
     defective-lines = marking.blind;
     colour-ratios = colour.blind;
+    shading-table = blocks.table-blind;
+    shading-recode = blocks.recode-blind;
+    recode-one-site = blocks.reads-one-site;
     job = stream.blind;
   };
-  gaps = record { find-defects = finding.gap-stays; repair = repairing.gap-stays };
+  gaps = record {
+    find-defects = finding.gap-stays;
+    repair = repairing.gap-stays;
+    shading-recode = λ w h full site code mask frame totals counts clear. blocks.one-code w h full site code frame mask totals counts _ _ _
+        (record { accepted = recode-done w h full site code mask frame (length totals) (length counts) clear; makes-mask = refl; makes-totals = refl; makes-counts = refl });
+  };
 }

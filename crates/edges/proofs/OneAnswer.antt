@@ -29,6 +29,11 @@ use Rattle.gain.specs.Gain.{Curve, transferAnswer}
 use Rattle.gain.proofs.Promises as gain
 use Rattle.stream.specs.Job.{jobAnswer}
 use Rattle.stream.proofs.Promises as stream
+use Rattle.blocks.specs.Table.{tableAnswer, tableTotals, tableCounts}
+use Rattle.blocks.specs.Recode.{recodeAnswer, recodeMask, recodeTotals, recodeCounts}
+use Rattle.blocks.proofs.Promises as blocks
+use Rattle.shading.specs.Judge.{asked, lengths, judgeAnswer, judgeNumerators, judgeDenominators, judgeRefusals, judgeFails}
+use Rattle.shading.proofs.Promises as shading
 
 pub record OneAnswer : Type 0 where
   pub unpack-raw10 : (w h : ℕ) (bytes out : List ℕ)
@@ -53,6 +58,23 @@ pub record OneAnswer : Type 0 where
   pub colour-ratios : (w h full black order : ℕ) (mask frame : List ℕ) → Sole (colourAnswer w h full black order mask frame)
   -- of any list of points, as structs or as rows
   pub photon-transfer : (c : Curve) (first last : ℕ) → Sole (transferAnswer c first last)
+  pub shading-table : (w h full : ℕ) (mask frame totals counts : List ℕ)
+      → Sole (tableAnswer w h full mask frame (length totals) (length counts))
+      × Sole (tableTotals w h full mask frame totals counts)
+      × Sole (tableCounts w h full mask frame totals counts)
+  pub shading-recode : (w h full site code : ℕ) (mask frame totals counts : List ℕ)
+      → Sole (recodeAnswer w h full site code mask frame (length totals) (length counts))
+      × Sole (recodeMask w h full site code mask frame (length totals) (length counts))
+      × Sole (recodeTotals w h full site code mask frame totals counts)
+      × Sole (recodeCounts w h full site code mask frame totals counts)
+  pub shading-judge : (w h full black order limit : ℕ) (totals counts numerators denominators refusals fails : List ℕ)
+      → let call = asked w h full black order limit in
+      let long = lengths (length numerators) (length denominators) (length refusals) (length fails) in
+      Sole (judgeAnswer call long totals counts)
+      × Sole (judgeNumerators call long totals counts numerators)
+      × Sole (judgeDenominators call long totals counts denominators)
+      × Sole (judgeRefusals call long totals counts refusals)
+      × Sole (judgeFails call long totals counts fails)
   pub job : (s : List ℕ) → Sole (jobAnswer s)
 
 pub one-answer : OneAnswer
@@ -68,5 +90,8 @@ one-answer = record {
   defective-lines = marking.only;
   colour-ratios = colour.only;
   photon-transfer = gain.only;
+  shading-table = blocks.table-only;
+  shading-recode = blocks.recode-only;
+  shading-judge = λ w h full black order limit. shading.only (asked w h full black order limit);
   job = stream.only;
 }

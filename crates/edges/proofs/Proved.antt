@@ -24,9 +24,16 @@ use Rattle.near.specs.Near.{nearSum}
 use Rattle.sites.specs.Find.{usedThreshold, far, foundAt, markedAt, foundCount, findVerdict, findAnswer, findMask}
 use Rattle.lines.specs.Lines.{before, after, pooled, defective, markOf, markAt}
 use Rattle.lines.specs.Marks.{linesVerdict, linesAnswer, linesBuffer}
+use Rattle.colour.specs.Bayer.{mosaicOf}
+use Rattle.colour.specs.Centre.{tooSmall}
+use Rattle.colour.specs.Colour.{notAbove, ratioOf}
+use Rattle.colour.specs.Colour as colour
 use Rattle.gain.specs.Slope.{jointSpread, allEqual}
 use Rattle.gain.specs.Gain.{outOfLimits, badLength, badList, badEnds, tooLarge, transferVerdict, transferAnswer}
-use Rattle.edges.specs.Table.{Edges, Beside, Transfers}
+use Rattle.blocks.specs.Areas.{blocksOf, areaOf, areaSites}
+use Rattle.shading.specs.Shade.{unseen, tooDark, fails, judgedShade, shadeOf}
+use Rattle.shading.specs.Judge.{badLimit, impossible, impossibleIn, lentVerdict, judgeVerdict, planesOf, tintOf, shadeIn, judgeAnswer, judgeBuffer}
+use Rattle.edges.specs.Table.{Edges, Beside, Transfers, Shadings}
 
 pub edges : Edges
 unfolding round ofBits firstTo greatestTo greatestIn _⊖_ sumToℤ sumTo sumIn sumBox tabulate shapeOf maskVerdict frameVerdict boxSum badSide badSides badScale sitesOf _⨟_ refuseWith refuseFirst samplesIn overIn seenAt seen one root rootTo joined sampleAt unpackVerdict unpackAnswer unpackBuffer numerator spreadOf framesVerdict pairVerdict pairAnswer aboveBlack darkVerdict darkAnswer nearSum usedThreshold far foundAt markedAt foundCount findVerdict findAnswer findMask lineTotal stepOf tenAround standsOut deviation figuresOf badCount patternVerdict patternAnswer before after pooled defective markOf markAt linesVerdict linesAnswer linesBuffer
@@ -79,4 +86,23 @@ transfers = record {
   one-point = refl;
   equal-means = refl;
   too-large = (refl, refl);
+}
+
+pub shadings : Shadings
+unfolding firstTo _⊖_ tabulate badSide badSides badScale shapeOf mosaicOf tooSmall colour.aboveBlack notAbove ratioOf blocksOf areaOf areaSites unseen tooDark fails judgedShade shadeOf badLimit impossible impossibleIn lentVerdict judgeVerdict planesOf tintOf shadeIn judgeAnswer judgeBuffer
+shadings = record {
+  even = (refl, refl, refl, refl, refl);
+  brighter-at-2 = (refl, refl, refl, refl, refl);
+  brighter-at-3 = (refl, refl, refl, refl, refl);
+  one-seventh = refl;
+  one-twenty-first = refl;
+  unseen = (refl, refl, refl, refl, refl);
+  black-at-3 = (refl, refl, refl, refl, refl);
+  black-at-4 = (refl, refl, refl, refl, refl);
+  count-193 = refl;
+  count-769 = refl;
+  total-full = refl;
+  total-over = refl;
+  too-small = refl;
+  length-first = (refl, refl);
 }

@@ -1,5 +1,5 @@
 -- Document 01, "Both sides of each edge": the worked examples K1 to K10 as one table of equations, and beside them what they leave open and what document 02 adds.
-use Prim.Native.Nat.{ℕ, _+_, _/_, _%_, _^_}
+use Prim.Native.Nat.{ℕ, _+_, _*_, _/_, _%_, _^_}
 use mathlib.Core.Bool.{true, false, cond, _&&_}
 use mathlib.Core.List.{List, [], _∷_, _++_}
 use mathlib.Core.Path.{_≡_}
@@ -27,6 +27,9 @@ use Rattle.gain.specs.Gain.{curveOf, chosen, numerator, transferAnswer}
 use Rattle.gain.specs.declared.Point.{Point}
 use Rattle.gain.specs.declared.Transfer.{Transfer}
 use Rattle.gain.specs.declared.Transfer.the-variants as gain
+use Rattle.shading.specs.Judge.{asked, lengths, judgeAnswer, judgeNumerators, judgeDenominators, judgeRefusals, judgeFails}
+use Rattle.shading.specs.declared.Judged.{Judged}
+use Rattle.shading.specs.declared.Judged.the-variants as shading
 
 -- n of one value
 abbrev all : ℕ → ℕ → List ℕ
@@ -173,3 +176,80 @@ pub record Transfers : Type 0 where
   pub equal-means : Transferred (point 1 10 20 ∷ point 2 10 40 ∷ []) 0 1 (gain.Refused (refusal 13 0))
   -- document 02's 14
   pub too-large : (numerator (chosen (curveOf atLimits) 0 63) ≡ pos 18010000462970880) × Transferred atLimits 0 63 (gain.Refused (refusal 14 0))
+
+-- document 02 j, 64 × 48 at order 0: a plane has four blocks of 192 sites, and its centre is all 768. Its five entries, by those of the blocks
+abbrev blocks : ℕ → ℕ → ℕ → ℕ → List ℕ
+blocks a b c d = a ∷ b ∷ c ∷ d ∷ (a + b + c + d) ∷ []
+
+-- the four alike; and the first unlike the others
+abbrev alike : ℕ → List ℕ
+alike each = blocks each each each each
+
+abbrev unlike : ℕ → ℕ → List ℕ
+unlike first others = blocks first others others others
+
+-- the totals of a plane that is surveyed whole, with every sample at one level
+abbrev level : ℕ → List ℕ
+level sample = alike (192 * sample)
+
+-- a table's entries, by its planes in turn
+abbrev entries : List ℕ → List ℕ → List ℕ → List ℕ → List ℕ
+entries r gr gb b = r ++ gr ++ gb ++ b
+
+-- R 164, Gr and Gb 264, B 114 everywhere, and every site surveyed
+abbrev levels : List ℕ
+levels = entries (level 164) (level 264) (level 264) (level 114)
+
+abbrev whole : List ℕ
+whole = entries (alike 192) (alike 192) (alike 192) (alike 192)
+
+-- such a table judged at a limit, with full scale 1023, black level 64 and four buffers of eight, is answered so
+abbrev Answered : ℕ → List ℕ → List ℕ → Judged → Type 0
+Answered limit totals counts answer = judgeAnswer (asked 64 48 1023 64 0 limit) (lengths 8 8 8 8) totals counts ≡ answer
+
+-- it is accepted, and leaves these numerators, denominators, refusals and fails in buffers that held 5
+abbrev Leaves : ℕ → List ℕ → List ℕ → List ℕ → List ℕ → List ℕ → List ℕ → Type 0
+Leaves limit totals counts numerators denominators refusals fails = Answered limit totals counts shading.Done
+    × (judgeNumerators (asked 64 48 1023 64 0 limit) (lengths 8 8 8 8) totals counts (all 8 5) ≡ numerators)
+    × (judgeDenominators (asked 64 48 1023 64 0 limit) (lengths 8 8 8 8) totals counts (all 8 5) ≡ denominators)
+    × (judgeRefusals (asked 64 48 1023 64 0 limit) (lengths 8 8 8 8) totals counts (all 8 5) ≡ refusals)
+    × (judgeFails (asked 64 48 1023 64 0 limit) (lengths 8 8 8 8) totals counts (all 8 5) ≡ fails)
+
+-- what such a buffer holds: of R/Gr the first block and each of the three others, of B/Gb each block
+abbrev eight : ℕ → ℕ → ℕ → List ℕ
+eight first others second = first ∷ others ∷ others ∷ others ∷ second ∷ second ∷ second ∷ second ∷ []
+
+-- R at 164, but at 184 in its first block: the centre's T of R is 192 × 120 + 576 × 100
+abbrev Brighter : ℕ → List ℕ → Type 0
+Brighter limit fails = Leaves limit (entries (unlike (192 * 184) (192 * 164)) (level 264) (level 264) (level 114)) whole
+    (eight 65229815808000 21743271936000 0) (eight 456608710656000 456608710656000 217432719360000) (eight 0 0 0) fails
+
+-- Gr at 264, but at 64 in its first block, the black level, so that T is 0 there
+abbrev Black : ℕ → List ℕ → Type 0
+Black limit fails = Leaves limit (entries (level 164) (unlike (192 * 64) (192 * 264)) (level 264) (level 114)) whole
+    (eight 0 108716359680000 0) (eight 0 434865438720000 217432719360000) (eight 10 0 0) fails
+
+pub record Shadings : Type 0 where
+  -- every numerator is 0, and nothing fails at the least limit; the counts are at their limits, 192 and 768, and get no 11
+  pub even : Leaves 1 levels whole (eight 0 0 0) (eight 434865438720000 434865438720000 217432719360000) (eight 0 0 0) (eight 0 0 0)
+  -- one block brighter: its ratio is 1/7 off the centre's, above 2 sixteenths and not above 3; the three others of R/Gr are 1/21 off
+  pub brighter-at-2 : Brighter 2 (eight 1 0 0)
+  pub brighter-at-3 : Brighter 3 (eight 0 0 0)
+  pub one-seventh : 7 * 65229815808000 ≡ 456608710656000
+  pub one-twenty-first : 21 * 21743271936000 ≡ 456608710656000
+  -- one block with no surveyed R: 7 there alone
+  pub unseen : Leaves 1 (entries (unlike 0 (192 * 164)) (level 264) (level 264) (level 114)) (entries (unlike 0 192) (alike 192) (alike 192) (alike 192))
+      (eight 0 0 0) (eight 0 326149079040000 217432719360000) (eight 7 0 0) (eight 0 0 0)
+  -- one block of Gr at the black level: 10 there alone; the three others of R/Gr are 1/4 off, above 3 sixteenths and not above 4
+  pub black-at-3 : Black 3 (eight 0 1 0)
+  pub black-at-4 : Black 4 (eight 0 0 0)
+  -- 11: a count of 193 in a block, and of 769 at a centre
+  pub count-193 : Answered 1 levels (entries (193 ∷ 192 ∷ 192 ∷ 192 ∷ 768 ∷ []) (alike 192) (alike 192) (alike 192)) (shading.Refused (refusal 11 0))
+  pub count-769 : Answered 1 levels (entries (192 ∷ 192 ∷ 192 ∷ 192 ∷ 769 ∷ []) (alike 192) (alike 192) (alike 192)) (shading.Refused (refusal 11 0))
+  -- a total of count × full scale in a block may be, one more gets 11
+  pub total-full : Answered 1 (entries (unlike (192 * 1023) (192 * 164)) (level 264) (level 264) (level 114)) whole shading.Done
+  pub total-over : Answered 1 (entries (unlike (192 * 1023 + 1) (192 * 164)) (level 264) (level 264) (level 114)) whole (shading.Refused (refusal 11 0))
+  -- 62 × 48 has two blocks a plane, so a table of 12 and buffers of 4: 9; a table or buffers of another length get 4 first
+  pub too-small : judgeAnswer (asked 62 48 1023 64 0 1) (lengths 4 4 4 4) (all 12 0) (all 12 0) ≡ shading.Refused (refusal 9 0)
+  pub length-first : (judgeAnswer (asked 62 48 1023 64 0 1) (lengths 4 4 4 4) (all 20 0) (all 20 0) ≡ shading.Refused (refusal 4 0))
+      × (judgeAnswer (asked 62 48 1023 64 0 1) (lengths 8 8 8 8) (all 12 0) (all 12 0) ≡ shading.Refused (refusal 4 0))
