@@ -1,11 +1,12 @@
 -- The laws of planes, and of what is seen in a box of a plane's coordinates.
-use Prim.Native.Nat.{ℕ, suc, _+_, _-_, _*_, _/_, _%_, _<_, _≤_, min}
-use mathlib.Core.Bool.{true}
+use Prim.Native.Nat.{ℕ, suc, _+_, _-_, _*_, _/_, _%_, _<_, _≤_, zero-le, min}
+use mathlib.Core.Bool.{Bool, true, false, cond}
 use mathlib.Core.List.{List, []}
 use mathlib.Core.Path.{_≡_, sym, ap, ap₂, _∙_}
 use native.Mathlib.Nat.{le-trans, suc-mul, add-mul, mul-comm, mul-assoc, mul-le-mul, mul-le-mul-right, div-add-mod', add-comm, zero-mul}
 use native.Mathlib.Omega.{arith}
 use lib.Arith.{digits-div, digits-mod}
+use lib.Dec.{eqb}
 use lib.ListN.{length, getD}
 use borrow.Author.Tests.{eq-eqb, ne-eqb}
 use Rattle.laws.specs.Sum.{sumBox}
@@ -15,8 +16,8 @@ use Rattle.window.specs.Walk.{walked}
 use Rattle.window.specs.View.{surveyed, seen, one}
 use Rattle.window.proofs.Sides.{Sides}
 use Rattle.window.proofs.Views.{seen-is, seen-le, seen-counted, seen-shift}
-use Rattle.window.proofs.Walks.{walked-whole}
-use Rattle.plane.specs.Plane.{rowParity, columnParity, planeOf, planeRow, planeColumn, siteAt, boxSum, sums, boxSums}
+use Rattle.window.proofs.Walks.{Whole, walked-whole, walked-some}
+use Rattle.plane.specs.Plane.{rowParity, columnParity, planeOf, planeRow, planeColumn, siteAt, boxSum, Inner, sums, boxSums}
 use Rattle.plane.specs.declared.PlaneBox.{PlaneBox}
 use Rattle.plane.specs.declared.Sums.{Sums}
 
@@ -44,18 +45,26 @@ module _ (w plane : ℕ) where
   pub start-low : w ≤ 128 → rowParity plane * w + columnParity plane ≤ 129
   start-low narrow = let low : rowParity plane ≤ 1 = omega arith in omega (arith, mul-le-mul-right w low)
 
-  -- so a box can be summed by its rows, or by its columns
+  -- so the sites of a row and those right of them are those of two planes
+  pub paired : (row : ℕ) → rowParity plane ≡ row % 2 → (u v : ℕ) → row % 2 * w + 2 * w * u + 2 * v + columnParity plane ≡ siteAt w plane u v
+  paired row e u v = omega (arith, stepped u v, ap (λ (k : ℕ). k * w) e)
+
+  -- and a box can be summed wherever its sites are found
+  pub by-place : (place : ℕ → ℕ → ℕ) → ((u v : ℕ) → place u v ≡ siteAt w plane u v) → (top bottom left right : ℕ) (view : ℕ → ℕ)
+      → sumBox top bottom left right (λ (u v : ℕ). view (place u v)) ≡ sumBox top bottom left right (λ (u v : ℕ). view (siteAt w plane u v))
+  by-place place is top bottom left right view = box-ext _ _ _ _ _ _ (λ u v p q s t. ap view (is u v))
+
+  -- so by its rows, or by its columns
   pub by-rows : (top bottom left right : ℕ) (view : ℕ → ℕ)
       → sumBox top bottom left right (λ (u v : ℕ). view (rowParity plane * w + columnParity plane + 2 * w * u + 2 * v))
       ≡ sumBox top bottom left right (λ (u v : ℕ). view (siteAt w plane u v))
-  by-rows top bottom left right view = box-ext _ _ _ _ _ _ (λ u v p q s t. ap view (stepped u v))
+  by-rows = by-place _ stepped
 
   pub by-columns : (top bottom left right : ℕ) (view : ℕ → ℕ)
       → sumBox left right top bottom (λ (v u : ℕ). view (rowParity plane * w + columnParity plane + 2 * v + 2 * w * u))
       ≡ sumBox top bottom left right (λ (u v : ℕ). view (siteAt w plane u v))
   by-columns top bottom left right view =
-      box-ext left right top bottom _ (λ (v u : ℕ). view (siteAt w plane u v)) (λ v u p q s t. ap view (stepped-down u v))
-      ∙ sym (box-turned top bottom left right (λ (u v : ℕ). view (siteAt w plane u v)))
+      box-turned left right top bottom _ ∙ by-place _ stepped-down top bottom left right view
 
 -- a site of a plane is in that plane, in its row and in its column
 module _ (w plane u v : ℕ) (in-row : v < w / 2) where
@@ -83,6 +92,10 @@ site-at w i = rw rows (omega (arith, div-add-mod' i w))
   where
     rows : 2 * (i / w / 2) + (2 * (i / w % 2) + i % w % 2) / 2 % 2 ≡ i / w
     rows = omega arith
+
+-- where some sites of both buffers can be walked, both have the window's
+pub both-whole : (w h m f : ℕ) {n : ℕ} → n ≡ min (walked w h m) (walked w h f) → (n ≡ 0 → ⊥) → Whole w h m × Whole w h f
+both-whole w h m f is some = (walked-some w h m (λ e. some (omega arith)), walked-some w h f (λ e. some (omega arith)))
 
 module _ (w h plane : ℕ) (within : PlaneBox) where
   -- sums of views that agree on the plane's sites
@@ -124,11 +137,10 @@ module _ (w h plane : ℕ) (within : PlaneBox) where
       same (siteAt w plane u v) (omega arith) (omega arith) (omega arith) (omega arith))
 
   -- the part of a box that lies inside the plane
-  pub box-inner : (view : ℕ → ℕ) (top bottom left right : ℕ)
-      → bottom ≡ min (within .bottom) (h / 2) → right ≡ min (within .right) (w / 2) → top ≡ min (within .top) bottom → left ≡ min (within .left) right
-      → sumBox top bottom left right (λ (u v : ℕ). view (siteAt w plane u v)) ≡ boxSum w h plane within view
+  pub box-inner : (view : ℕ → ℕ) {part : PlaneBox} → Inner w h within part
+      → sumBox (part .top) (part .bottom) (part .left) (part .right) (λ (u v : ℕ). view (siteAt w plane u v)) ≡ boxSum w h plane within view
   unfolding boxSum
-  box-inner view top bottom left right b r t l = rw (t, l, b, r) (box-cut _ _ _ _ _)
+  box-inner view is = rw (is .top, is .left, is .bottom, is .right) (box-cut _ _ _ _ _)
 
 -- sums of views that agree at every site but one
 module _ (w h plane : ℕ) (within : PlaneBox) (site : ℕ) (f g : ℕ → ℕ) (same : (i : ℕ) → i < h * w → (i ≡ site → ⊥) → f i ≡ g i) where
@@ -190,19 +202,37 @@ module _ (w h plane : ℕ) (within : PlaneBox) (mask frame : List ℕ) where
       sums-whole (λ e. omega (arith, n, k, legal .sites, some))
 
   -- any others show nothing
-  pub sums-none : min (walked w h (length mask)) (walked w h (length frame)) ≡ 0 → boxSums w h plane within mask frame ≡ sums 0 0
+  pub sums-none : {n : ℕ} → n ≡ min (walked w h (length mask)) (walked w h (length frame)) → n ≡ 0 → sums 0 0 ≡ boxSums w h plane within mask frame
   unfolding boxSums
-  sums-none e = rw (eq-eqb (min (walked w h (length mask)) (walked w h (length frame))) 0 e)
+  sums-none is e = rw (eq-eqb (min (walked w h (length mask)) (walked w h (length frame))) 0 (sym is ∙ e))
 
   -- so sums over the part of a box that lies inside the plane are all that is seen of it
-  pub sums-told : (r : Sums) (top bottom left right : ℕ)
-      → bottom ≡ min (within .bottom) (h / 2) → right ≡ min (within .right) (w / 2) → top ≡ min (within .top) bottom → left ≡ min (within .left) right
-      → r .count ≡ sumBox top bottom left right (λ (u v : ℕ). one mask (siteAt w plane u v))
-      → r .total ≡ sumBox top bottom left right (λ (u v : ℕ). seen mask frame (siteAt w plane u v))
-      → (min (walked w h (length mask)) (walked w h (length frame)) ≡ 0 → ⊥) → ((i : ℕ) → getD frame i 0 ≤ 65535)
-      → (r ≡ boxSums w h plane within mask frame) × (r .total ≤ 65535 * r .count)
-  sums-told r top bottom left right b e t l c s some small =
-      let counted = c ∙ box-inner w h plane within (one mask) top bottom left right b e t l in
-      let added = s ∙ box-inner w h plane within (seen mask frame) top bottom left right b e t l in
-      let low = box-at-most w h plane within 65535 (one mask) (seen mask frame) (λ i _. seen-scaled mask frame 65535 small i) in
-      (ap₂ sums counted added ∙ sym (sums-whole some), omega arith)
+  pub sums-told : (r : Sums) {part : PlaneBox} → Inner w h within part
+      → r .count ≡ sumBox (part .top) (part .bottom) (part .left) (part .right) (λ (u v : ℕ). one mask (siteAt w plane u v))
+      → r .total ≡ sumBox (part .top) (part .bottom) (part .left) (part .right) (λ (u v : ℕ). seen mask frame (siteAt w plane u v))
+      → {n : ℕ} → n ≡ min (walked w h (length mask)) (walked w h (length frame)) → (n ≡ 0 → ⊥)
+      → r ≡ boxSums w h plane within mask frame
+  sums-told r is c s n some =
+      ap₂ sums (c ∙ box-inner w h plane within (one mask) is) (s ∙ box-inner w h plane within (seen mask frame) is) ∙ sym (sums-whole (λ e. some (n ∙ e)))
+
+  -- wherever its sites are found
+  pub sums-placed : (r : Sums) {part : PlaneBox} {place : ℕ → ℕ → ℕ} → Inner w h within part
+      → r .count ≡ sumBox (part .top) (part .bottom) (part .left) (part .right) (λ (u v : ℕ). one mask (place u v))
+      → r .total ≡ sumBox (part .top) (part .bottom) (part .left) (part .right) (λ (u v : ℕ). seen mask frame (place u v))
+      → ((u v : ℕ) → place u v ≡ siteAt w plane u v)
+      → {n : ℕ} → n ≡ min (walked w h (length mask)) (walked w h (length frame)) → (n ≡ 0 → ⊥)
+      → r ≡ boxSums w h plane within mask frame
+  sums-placed r {part} {place} is c s at n some =
+      sums-told r is (c ∙ by-place w plane place at _ _ _ _ (one mask)) (s ∙ by-place w plane place at _ _ _ _ (seen mask frame)) n some
+
+  -- no sample has more than 16 bits, so neither has what is seen of a site
+  pub sums-low : ((i : ℕ) → getD frame i 0 ≤ 65535) → boxSums w h plane within mask frame .total ≤ 65535 * boxSums w h plane within mask frame .count
+  unfolding boxSums
+  sums-low small =
+      by (eqb (min (walked w h (length mask)) (walked w h (length frame))) 0) _ _
+      (box-at-most w h plane within 65535 (one mask) (seen mask frame) (λ i _. seen-scaled mask frame 65535 small i))
+    where
+      by : (none : Bool) (count total : ℕ) → total ≤ 65535 * count
+          → cond none (sums 0 0) (sums count total) .total ≤ 65535 * cond none (sums 0 0) (sums count total) .count
+      by true count total low = zero-le
+      by false count total low = low

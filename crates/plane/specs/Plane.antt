@@ -2,11 +2,13 @@
 use Prim.Native.Nat.{ℕ, _+_, _*_, _/_, _%_, min}
 use mathlib.Core.Bool.{cond}
 use mathlib.Core.List.{List}
+use mathlib.Core.Path.{_≡_}
 use lib.Dec.{eqb}
 use lib.ListN.{length}
 use Rattle.laws.specs.Sum.{sumBox}
 use Rattle.window.specs.View.{seen, one}
 use Rattle.window.specs.Walk.{walked}
+use Rattle.plane.specs.declared.Pair.{Pair}
 use Rattle.plane.specs.declared.PlaneBox.{PlaneBox}
 use Rattle.plane.specs.declared.Sums.{Sums}
 
@@ -37,6 +39,13 @@ unfoldable pub boxSum : ℕ → ℕ → ℕ → PlaneBox → (ℕ → ℕ) → �
 boxSum w h plane within view =
     sumBox (within .top) (min (within .bottom) (h / 2)) (within .left) (min (within .right) (w / 2)) (λ (u v : ℕ). view (siteAt w plane u v))
 
+-- the part of a box that lies inside the plane
+pub record Inner (w h : ℕ) (within part : PlaneBox) : Type 0 where
+  pub bottom : part .bottom ≡ min (within .bottom) (h / 2)
+  pub right : part .right ≡ min (within .right) (w / 2)
+  pub top : part .top ≡ min (within .top) (part .bottom)
+  pub left : part .left ≡ min (within .left) (part .right)
+
 abbrev pub sums : ℕ → ℕ → Sums
 sums count total = record { count = count; total = total }
 
@@ -46,3 +55,11 @@ boxSums w h plane within mask frame =
     cond (eqb (min (walked w h (length mask)) (walked w h (length frame))) 0)
     (sums 0 0)
     (sums (boxSum w h plane within (one mask)) (boxSum w h plane within (seen mask frame)))
+
+-- the same of the two planes that share the rows of one parity: of even and of odd columns
+abbrev pub pair : Sums → Sums → Pair
+pair even odd = record { even = even; odd = odd }
+
+abbrev pub pairSums : ℕ → ℕ → ℕ → PlaneBox → List ℕ → List ℕ → Pair
+pairSums w h row within mask frame =
+    pair (boxSums w h (2 * (row % 2)) within mask frame) (boxSums w h (2 * (row % 2) + 1) within mask frame)
