@@ -1,4 +1,5 @@
 pub mod Areas
+pub mod Stores
 pub mod Judged
 pub mod Sites
 pub mod Entries

@@ -1,7 +1,8 @@
 -- What the code sees of an entry, and what the verdict makes of answers and buffers.
-use Prim.Native.Nat.{ℕ, _/_, _%_}
+use Prim.Native.Nat.{ℕ, _+_, _*_, _≤_, _<_}
 use mathlib.Core.List.{List}
 use mathlib.Core.Path.{_≡_, refl, ap, _∙_}
+use native.Mathlib.Omega.{arith}
 use lib.ListN.{length}
 use Rattle.laws.specs.Table.{held}
 use Rattle.verdict.specs.declared.Refusal.{Refusal}
@@ -13,19 +14,21 @@ use Rattle.plane.specs.Plane.{boxSums}
 use Rattle.plane.specs.declared.PlaneBox.{PlaneBox}
 use Rattle.plane.specs.declared.Sums.{Sums}
 use Rattle.plane.proofs.Planes.{sums-accepted}
-use Rattle.blocks.specs.Areas.{areasOf, areaOf}
+use Rattle.blocks.specs.Areas.{blocksOf, areasOf, areaOf}
 use Rattle.blocks.specs.Table.{entrySum, entrySums, tableVerdict, tableAnswer, paperOf, tablePaper, tableTotals, tableCounts}
 use Rattle.blocks.specs.Recode.{recodeVerdict, recodeAnswer, recodePaper, recoded, amended, recodeMask, recodeTotals, recodeCounts}
+use Rattle.blocks.proofs.Areas.{entry-plane, entry-area}
 use Rattle.blocks.specs.declared.Shaded.the-variants.{Done, Refused}
 
--- buffers that have the window's sites show what is in an entry's area
-pub entry-summed : (w h areas e : ℕ) (mask frame : List ℕ) (r : Sums) (within : PlaneBox) → Sides w h → length mask ≡ sitesOf w h → length frame ≡ sitesOf w h
-    → areas ≡ areasOf w h → within ≡ areaOf w h (e % areas) → r ≡ boxSums w h (e / areas) within mask frame
-    → (r .total ≡ entrySum w h (seen mask frame) e) × (r .count ≡ entrySum w h (one mask) e)
+-- buffers that have the window's sites show what is in area k of a plane
+pub entry-summed : (w h areas k : ℕ) (mask frame : List ℕ) (within : PlaneBox) → Sides w h → length mask ≡ sitesOf w h → length frame ≡ sitesOf w h
+    → areas ≡ areasOf w h → k < areas → within ≡ areaOf w h k → (plane : ℕ) (r : Sums) → r ≡ boxSums w h plane within mask frame
+    → (r .total ≡ entrySum w h (seen mask frame) (plane * areas + k)) × (r .count ≡ entrySum w h (one mask) (plane * areas + k))
 unfolding entrySum
-entry-summed w h areas e mask frame r within legal m f p q s =
-    let is = s ∙ sums-accepted w h (e / areas) within mask frame legal m f in
-    rw (← p, ← q) (ap (λ (x : Sums). x .total) is, ap (λ (x : Sums). x .count) is)
+entry-summed w h areas k mask frame within legal m f p last q plane r s =
+    let is = s ∙ sums-accepted w h plane within mask frame legal m f in
+    let in-plane : k ≤ blocksOf w h = omega arith in
+    rw (p, entry-plane w h plane k in-plane, entry-area w h plane k in-plane, ← q) (ap (λ (x : Sums). x .total) is, ap (λ (x : Sums). x .count) is)
 
 module _ (w h full : ℕ) (mask frame totals counts : List ℕ) where
   pub table-refused : (r : Refusal) → tableVerdict w h full mask frame (length totals) (length counts) ≡ verdict.Refused r

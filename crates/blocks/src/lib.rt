@@ -1,8 +1,8 @@
 // The block table of colour shading, made and amended: document 02, j.
 ghost use mathlib.Core.Bool.{false};
 ghost use mathlib.Core.Path.{_≡_};
-ghost use Prim.Native.Nat.{_/_, _≤_, _<_};
-ghost use lib.ListN.{length};
+ghost use Prim.Native.Nat.{_+_, _*_, _/_, _≤_, _<_};
+ghost use lib.ListN.{length, set};
 ghost use Rattle.laws.specs.Table.{held};
 ghost use Rattle.window.specs.Shape.{badSides, sitesOf};
 ghost use Rattle.window.specs.View.{seen, one, seenAt};
@@ -73,7 +73,26 @@ fn area(width: usize, height: usize, k: usize) -> PlaneBox
     }
 }
 
-// Every entry of the table, area after area and plane after plane.
+// The entries of area k in all four planes.
+fn store(
+    entries: &mut [u32],
+    areas: usize,
+    k: usize,
+    first: u32,
+    second: u32,
+    third: u32,
+    fourth: u32,
+)
+    requires { ⌜ (k < areas) × (length (now entries) ≡ 4 * areas) ⌝ }
+    ensures { λ r. ⌜ now (entries .exit) ≡ set (set (set (set (now (entries .entry)) k first) (areas + k) second) (2 * areas + k) third) (3 * areas + k) fourth ⌝ }
+{
+    entries[k] = first;
+    entries[areas + k] = second;
+    entries[2 * areas + k] = third;
+    entries[3 * areas + k] = fourth;
+}
+
+// Every entry of the table, area after area, two planes of it together.
 fn sum_areas(
     width: usize,
     height: usize,
@@ -87,11 +106,28 @@ fn sum_areas(
     ensures { λ r. ⌜ now (counts .exit) ≡ entrySums width height (one (now (mask .entry))) ⌝ }
 {
     let areas = blocks(width, height) + 1;
-    for e in 0..totals.len() {
-        let within = area(width, height, e % areas);
-        let sums = plane::box_sums(width, height, e / areas, within, mask, frame);
-        totals[e] = sums.total;
-        counts[e] = sums.count as u32;
+    for k in 0..areas {
+        let within = area(width, height, k);
+        let upper = plane::pair_sums(width, height, 0, within, mask, frame);
+        let lower = plane::pair_sums(width, height, 1, within, mask, frame);
+        store(
+            totals,
+            areas,
+            k,
+            upper.even.total,
+            upper.odd.total,
+            lower.even.total,
+            lower.odd.total,
+        );
+        store(
+            counts,
+            areas,
+            k,
+            upper.even.count as u32,
+            upper.odd.count as u32,
+            lower.even.count as u32,
+            lower.odd.count as u32,
+        );
     }
 }
 

@@ -1,27 +1,35 @@
--- `sum_areas` is right because each turn sums one more entry's area.
-use Prim.Native.Nat.{ℕ, _+_, _-_, _≤_}
-use mathlib.Core.Path.{_≡_, ap}
+-- `sum_areas` is right because each turn stores what is seen in one more area, of all four planes.
+use Prim.Native.Nat.{ℕ, _+_, _-_, _*_, _≤_}
+use mathlib.Core.Path.{_≡_, ap, _∙_}
 use native.Mathlib.Omega.{arith}
 use lib.ListN.{length}
 use borrow.Author.Needs.{needs}
-use Rattle.laws.proofs.Tables.{Filling, filling-none, filling-more, filling-done}
 use Rattle.window.specs.View.{seen, one}
 use Rattle.window.proofs.Sides.{sides}
+use Rattle.plane.specs.declared.Pair.{Pair}
+use Rattle.blocks.specs.Areas.{entriesOf}
 use Rattle.blocks.specs.Table.{entrySum}
+use Rattle.blocks.proofs.Stores.{Stored, stored-none, stored-more, stored-done}
 use Rattle.blocks.proofs.Told.{entry-summed}
 use Rattle.blocks.proofs.sum_areas.Statement.{statement}
 use Rattle.blocks.proofs.sum_areas.Tie as tie
 
 abbrev Inv-loop : tie.InvT-loop
-Inv-loop width height mask frame totals₀ counts₀ areas e₀ e-end totals counts e = (e ≤ e-end) × (e-end ≡ length totals₀) × (length counts₀ ≡ length totals₀)
-    × Filling (entrySum width height (seen mask frame)) totals₀ totals e
-    × Filling (entrySum width height (one mask)) counts₀ counts e
+Inv-loop width height mask frame totals₀ counts₀ areas k₀ totals counts k = (k ≤ areas) × (length totals₀ ≡ 4 * areas) × (length counts₀ ≡ 4 * areas)
+    × Stored (entrySum width height (seen mask frame)) areas totals₀ totals k
+    × Stored (entrySum width height (one mask)) areas counts₀ counts k
 
 abbrev μ-loop : tie.MeasureT-loop
-μ-loop width height mask frame totals₀ counts₀ areas e₀ e-end totals counts e = e-end - e
+μ-loop width height mask frame totals₀ counts₀ areas k₀ totals counts k = areas - k
+
+abbrev Turn : tie.After-pair-sums2 Inv-loop μ-loop → tie.In-loop Inv-loop μ-loop
+Turn c = c .before .before .before
 
 abbrev Begun : tie.At-loop Inv-loop μ-loop → tie.Start Inv-loop μ-loop
 Begun c = c .before .before .before .before .before .before
+
+abbrev Totalled : tie.After-struct-known4 Inv-loop μ-loop → tie.After-store Inv-loop μ-loop
+Totalled c = c .before .before .before .before .before .before .before
 
 blocks-requires : tie.Need-blocks-requires Inv-loop μ-loop
 blocks-requires c κs = search needs
@@ -30,52 +38,66 @@ add-areas : tie.Need-add-areas Inv-loop μ-loop
 add-areas c = search needs
 
 loop-holds : tie.Need-loop-holds Inv-loop μ-loop
-loop-holds c = (omega arith, search needs, omega arith, filling-none _ _, filling-none _ _)
-
-rem-area : tie.Need-rem-area Inv-loop μ-loop
-rem-area c = omega arith
+loop-holds c = (omega arith, omega arith, omega arith, stored-none _ _ _, stored-none _ _ _)
 
 area-requires : tie.Need-area-requires Inv-loop μ-loop
 area-requires c κs = search needs
 
-div-box-sums : tie.Need-div-box-sums Inv-loop μ-loop
-div-box-sums c = omega arith
+pair-sums-requires : tie.Need-pair-sums-requires Inv-loop μ-loop
+pair-sums-requires c κs = search needs
 
-box-sums-requires : tie.Need-box-sums-requires Inv-loop μ-loop
-box-sums-requires c κs = search needs
+pair-sums-requires-2 : tie.Need-pair-sums-requires-2 Inv-loop μ-loop
+pair-sums-requires-2 c κs = search needs
 
-mul-totals : tie.Need-mul-totals Inv-loop μ-loop
-mul-totals c = omega arith
+store-requires : tie.Need-store-requires Inv-loop μ-loop
+store-requires c κs = search needs
 
-slice-write-totals : tie.Need-slice-write-totals Inv-loop μ-loop
-slice-write-totals c = omega (arith, c .before .before .before .loop .inv .3 .long)
+cast-store : tie.Need-cast-store Inv-loop μ-loop
+cast-store c = search needs
 
-cast-counts : tie.Need-cast-counts Inv-loop μ-loop
-cast-counts c = search needs
+cast-store-2 : tie.Need-cast-store-2 Inv-loop μ-loop
+cast-store-2 c = search needs
 
-mul-counts : tie.Need-mul-counts Inv-loop μ-loop
-mul-counts c = omega arith
+cast-store-3 : tie.Need-cast-store-3 Inv-loop μ-loop
+cast-store-3 c = search needs
 
-slice-write-counts : tie.Need-slice-write-counts Inv-loop μ-loop
-slice-write-counts c = omega (arith, c .before .before .before .before .loop .inv .4 .long)
+cast-store-4 : tie.Need-cast-store-4 Inv-loop μ-loop
+cast-store-4 c = search needs
 
-add-e : tie.Need-add-e Inv-loop μ-loop
-add-e c = omega arith
+store-requires-2 : tie.Need-store-requires-2 Inv-loop μ-loop
+store-requires-2 c κs = let turn = Turn (Totalled c .before .before) in
+    let i = turn .before .loop .inv in
+    (turn .loop-test .taken, i .4 .long ∙ i .2)
+
+add-k : tie.Need-add-k Inv-loop μ-loop
+add-k c = let turn = Turn (Totalled (c .before .before .before) .before .before) in
+    omega (arith, turn .loop-test .taken, turn .before .before .blocks2 .ensures .1)
 
 loop-less : tie.Need-loop-less Inv-loop μ-loop
-loop-less c = omega arith
+loop-less c = let turn = Turn (Totalled (c .before .before .before) .before .before) in
+    omega (arith, turn .loop-test .taken)
 
 loop-again : tie.Need-loop-again Inv-loop μ-loop
-loop-again c = let turn = c .before .before .before .before in
-    let k = turn .loop in
-    let start = Begun turn in
-    let told = entry-summed _ _ _ _ _ _ _ _ (sides _ _ (start .pre .0)) (start .pre .1) (start .pre .2)
-    (ap (λ (n : ℕ). n + 1) (turn .before .blocks2 .ensures .0)) (c .before .before .area .ensures) (c .before .box-sums .ensures .0) in (
+loop-again c = let counted = c .before .before in
+    let totalled = Totalled (counted .before) in
+    let summed = totalled .before .before in
+    let turn = Turn summed in
+    let start = Begun (turn .before) in
+    let i = turn .before .loop .inv in
+    let last = turn .loop-test .taken in
+    let upper = summed .before .pair-sums .ensures in
+    let lower = summed .pair-sums2 .ensures in
+    let told = entry-summed _ _ _ _ _ _ _ (sides _ _ (start .pre .0)) (start .pre .1) (start .pre .2)
+    (ap (λ (n : ℕ). n + 1) (turn .before .before .blocks2 .ensures .0)) last (summed .before .before .area .ensures) in
+    let first = told 0 _ (ap (λ (p : Pair). p .even) upper) in
+    let second = told 1 _ (ap (λ (p : Pair). p .odd) upper) in
+    let third = told 2 _ (ap (λ (p : Pair). p .even) lower) in
+    let fourth = told 3 _ (ap (λ (p : Pair). p .odd) lower) in (
       omega arith,
-      k .inv .1,
-      k .inv .2,
-      filling-more _ (k .inv .3) (omega (arith, k .inv .3 .long)) (told .0),
-      filling-more _ (k .inv .4) (omega (arith, k .inv .4 .long)) (told .1),
+      i .1,
+      i .2,
+      rw (totalled .store .ensures) (stored-more _ _ _ _ (i .3) last (i .1) (first .0) (second .0) (third .0) (fourth .0)),
+      rw (counted .store2 .ensures) (stored-more _ _ _ _ (i .4) last (i .2) (first .1) (second .1) (third .1) (fourth .1)),
     )
 
 same-length : tie.Need-same-length Inv-loop μ-loop
@@ -85,9 +107,10 @@ same-length-2 : tie.Need-same-length-2 Inv-loop μ-loop
 same-length-2 c = search needs
 
 returns : tie.Need-returns Inv-loop μ-loop
-returns c = let k = c .before .loop in
+returns c = let i = c .before .loop .inv in
     let start = Begun (c .before) in
-    (filling-done _ (k .inv .3) (omega (arith, k .inv .3 .long)) (start .pre .3), filling-done _ (k .inv .4) (omega (arith, k .inv .4 .long)) (start .pre .4))
+    let all : entriesOf (start .args .width) (start .args .height) ≡ 4 * (c .before .before .blocks2 .result + 1) = omega (arith, c .before .before .blocks2 .ensures .0) in
+    (stored-done _ (i .3) (omega arith) (omega arith) (start .pre .3) all, stored-done _ (i .4) (omega arith) (omega arith) (start .pre .4) all)
 
 pub sum-areas-spec : {M : Type 1} → statement M
 sum-areas-spec =
@@ -98,16 +121,16 @@ sum-areas-spec =
     blocks-requires
     add-areas
     loop-holds
-    rem-area
     area-requires
-    div-box-sums
-    box-sums-requires
-    mul-totals
-    slice-write-totals
-    cast-counts
-    mul-counts
-    slice-write-counts
-    add-e
+    pair-sums-requires
+    pair-sums-requires-2
+    store-requires
+    cast-store
+    cast-store-2
+    cast-store-3
+    cast-store-4
+    store-requires-2
+    add-k
     loop-less
     loop-again
     same-length
