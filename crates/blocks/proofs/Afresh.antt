@@ -15,34 +15,11 @@ use Rattle.refusals.proofs.Judges.{Framed}
 use Rattle.colour.specs.Centre.{tooSmall}
 use Rattle.blocks.specs.Areas.{entriesOf}
 use Rattle.blocks.specs.Table.{entrySums, tableVerdict, tableAnswer, tableTotals, tableCounts}
-use Rattle.blocks.specs.Recode.{recoded, amended, recodeVerdict, recodeAnswer, recodeMask, recodeTotals, recodeCounts}
+use Rattle.blocks.specs.Recode.{recoded, amended, recodeAnswer, recodeMask, recodeTotals, recodeCounts}
 use Rattle.blocks.specs.declared.Shaded.the-variants.{Done}
 use Rattle.blocks.proofs.Judged.{tabling, tabling-clear, table-clear, table-done, Recoding, recoding, recode-clear}
 use Rattle.blocks.proofs.Amends.{recoded-long, recoded-all, amended-afresh}
-
--- what accepted calls leave
-module _ (w h full : ℕ) (mask frame totals counts : List ℕ) (clear : tableVerdict w h full mask frame (length totals) (length counts) ≡ verdict.Clear) where
-  pub totals-are : tableTotals w h full mask frame totals counts ≡ entrySums w h (seen mask frame)
-  unfolding tableTotals
-  totals-are = rw clear
-
-  pub counts-are : tableCounts w h full mask frame totals counts ≡ entrySums w h (one mask)
-  unfolding tableCounts
-  counts-are = rw clear
-
-module _ (w h full site code : ℕ) (mask frame totals counts : List ℕ) (clear : recodeVerdict w h full site code mask frame (length totals) (length counts) ≡ verdict.Clear) where
-  pub mask-after : recodeMask w h full site code mask frame (length totals) (length counts) ≡ recoded site code mask
-  unfolding recodeMask
-  mask-after = rw clear
-
-  pub totals-after : recodeTotals w h full site code mask frame totals counts
-      ≡ amended w h site (seenAt (held mask site) (held frame site)) (seenAt code (held frame site)) totals
-  unfolding recodeTotals
-  totals-after = rw clear
-
-  pub counts-after : recodeCounts w h full site code mask frame totals counts ≡ amended w h site (seenAt (held mask site) 1) (seenAt code 1) counts
-  unfolding recodeCounts
-  counts-after = rw clear
+use Rattle.blocks.proofs.Told.{table-accepted, recode-accepted}
 
 -- a recode is accepted, and makes of a mask, totals and counts these others
 pub record Makes (w h full site code : ℕ) (frame mask totals counts mask′ totals′ counts′ : List ℕ) : Type 0 where
@@ -64,9 +41,9 @@ made {w} {h} {full} {site} {code} {frame} {mask} {totals} {counts} m =
     let clear = recode-clear w h full site code mask frame (length totals) (length counts) (m .accepted) in
     record {
       of = recoding w h full site code mask frame (length totals) (length counts) clear;
-      mask-is = sym (m .makes-mask) ∙ mask-after w h full site code mask frame totals counts clear;
-      totals-is = sym (m .makes-totals) ∙ totals-after w h full site code mask frame totals counts clear;
-      counts-is = sym (m .makes-counts) ∙ counts-after w h full site code mask frame totals counts clear;
+      mask-is = sym (m .makes-mask) ∙ sym (recode-accepted w h full mask frame totals counts site code clear .1 .1 .0);
+      totals-is = sym (m .makes-totals) ∙ sym (recode-accepted w h full mask frame totals counts site code clear .1 .1 .1 .0);
+      counts-is = sym (m .makes-counts) ∙ sym (recode-accepted w h full mask frame totals counts site code clear .1 .1 .1 .1);
     }
 
 -- totals and counts are the table of a mask and a frame: `shading_table` is accepted and leaves them, whatever its two buffers held
@@ -86,8 +63,8 @@ module _ (w h full : ℕ) (mask frame totals counts : List ℕ) where
   pub summed-table : Summed w h full mask frame totals counts → TableOf w h full mask frame totals counts
   summed-table s = record {
     accepted = λ t c p q. table-done w h full mask frame (length t) (length c) (clear t c p q);
-    leaves-totals = λ t c p q. totals-are w h full mask frame t c (clear t c p q) ∙ sym (s .totals-sum);
-    leaves-counts = λ t c p q. counts-are w h full mask frame t c (clear t c p q) ∙ sym (s .counts-sum);
+    leaves-totals = λ t c p q. sym (table-accepted w h full mask frame t c (clear t c p q) .1 .1 .0) ∙ sym (s .totals-sum);
+    leaves-counts = λ t c p q. sym (table-accepted w h full mask frame t c (clear t c p q) .1 .1 .1) ∙ sym (s .counts-sum);
   }
     where
       clear : (t c : List ℕ) → length t ≡ entriesOf w h → length c ≡ entriesOf w h → tableVerdict w h full mask frame (length t) (length c) ≡ verdict.Clear
@@ -102,8 +79,8 @@ module _ (w h full : ℕ) (mask frame totals counts : List ℕ) where
       record {
         lent = a .lent;
         large = a .large;
-        totals-sum = sym (is .leaves-totals zeros zeros long long) ∙ totals-are w h full mask frame zeros zeros clear;
-        counts-sum = sym (is .leaves-counts zeros zeros long long) ∙ counts-are w h full mask frame zeros zeros clear;
+        totals-sum = sym (is .leaves-totals zeros zeros long long) ∙ sym (table-accepted w h full mask frame zeros zeros clear .1 .1 .0);
+        counts-sum = sym (is .leaves-counts zeros zeros long long) ∙ sym (table-accepted w h full mask frame zeros zeros clear .1 .1 .1);
       }
 
 -- an accepted call leaves the table of its mask and frame
@@ -115,8 +92,8 @@ made-summed w h full mask frame totals counts done =
     record {
       lent = a .lent;
       large = a .large;
-      totals-sum = totals-are w h full mask frame totals counts clear;
-      counts-sum = counts-are w h full mask frame totals counts clear;
+      totals-sum = sym (table-accepted w h full mask frame totals counts clear .1 .1 .0);
+      counts-sum = sym (table-accepted w h full mask frame totals counts clear .1 .1 .1);
     }
 
 -- and an accepted recode

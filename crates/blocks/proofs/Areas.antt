@@ -51,19 +51,20 @@ module _ (w h : ℕ) where
       positive zero b l = absurd (omega (arith, zero-mul b))
       positive (suc a) b l = omega arith
 
-  -- the areas before the last are blocks, of 192 sites each
+  -- the areas before the last are blocks
   pub area-block : (k : ℕ) → k < blocksOf w h → areaOf w h k ≡ blockOf w k
   unfolding areaOf
   area-block k in-blocks = rw (lt-ltb k (blocksOf w h) in-blocks)
 
   -- which all end inside the plane
-  pub block-in : (k : ℕ) → k < blocksOf w h → (blockOf w k .bottom ≤ 12 * blocksDown h) × (blockOf w k .right ≤ 16 * blocksAcross w)
+  pub block-in : (k : ℕ) → k < blocksOf w h → (blockOf w k .bottom ≤ 12 * (h / 2 / 12)) × (blockOf w k .right ≤ 16 * (w / 2 / 16))
   block-in k in-blocks =
       let across = some-across (omega arith) in
       let down : k / blocksAcross w < blocksDown h = div-lt-iff-lt-mul {k = blocksAcross w} across .1 (omega (arith, blocks-most, mul-comm (blocksAcross w) (blocksDown h))) in
       let along : k % blocksAcross w < blocksAcross w = mod-lt k across in
       (omega arith, omega arith)
 
+  -- and have 192 sites each
   pub block-sites : (k : ℕ) → k < blocksOf w h → areaSites w h k ≡ 192
   unfolding areaSites
   block-sites k in-blocks = ap boxSites (area-block k in-blocks) ∙ ap₂ (λ (x y : ℕ). x * y) (between 12 (k / blocksAcross w)) (between 16 (k % blocksAcross w))

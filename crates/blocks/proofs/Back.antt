@@ -1,7 +1,7 @@
 -- A recode that is undone: the way back is accepted and restores mask and table.
 use Prim.Native.Nat.{ℕ}
 use mathlib.Core.List.{List}
-use mathlib.Core.Path.{_≡_, ap, _∙_}
+use mathlib.Core.Path.{_≡_, sym, ap, _∙_}
 use native.Mathlib.Nat.{le-trans}
 use native.Mathlib.Omega.{arith}
 use lib.ListN.{length}
@@ -13,7 +13,8 @@ use Rattle.window.proofs.Views.{seen-le}
 use Rattle.blocks.specs.Recode.{recoded, amended, recodeVerdict}
 use Rattle.blocks.proofs.Judged.{Recoding, recoding-clear, recode-done}
 use Rattle.blocks.proofs.Amends.{Words, amended-long, amended-back, recoded-long, recoded-here, recoded-back}
-use Rattle.blocks.proofs.Afresh.{mask-after, totals-after, counts-after, Makes, made}
+use Rattle.blocks.proofs.Afresh.{Makes, made}
+use Rattle.blocks.proofs.Told.{recode-accepted}
 
 module _ (w h full site code : ℕ) (mask frame totals counts : List ℕ) (a : Recoding w h full site code mask frame (length totals) (length counts))
     (total-words : Words totals) (count-words : Words counts) where
@@ -47,21 +48,19 @@ module _ (w h full site code : ℕ) (mask frame totals counts : List ℕ) (a : R
         large = a .large;
       })
 
-  pub back : Makes w h full site (held mask site) frame (recoded site code mask)
-      (amended w h site (seenAt (held mask site) (held frame site)) (seenAt code (held frame site)) totals)
-      (amended w h site (seenAt (held mask site) 1) (seenAt code 1) counts)
-      mask totals counts
+  pub back : Makes w h full site (held mask site) frame M T C mask totals counts
   back =
       let high = scale full (a .scaled) .high in
+      let again = recode-accepted w h full M frame T C site (held mask site) clear in
       record {
         accepted = recode-done w h full site (held mask site) M frame (length T) (length C) clear;
-        makes-mask = mask-after w h full site (held mask site) M frame T C clear ∙ recoded-back site code mask (omega (arith, a .inside, a .masked));
+        makes-mask = sym (again .1 .1 .0) ∙ recoded-back site code mask (omega (arith, a .inside, a .masked));
         makes-totals =
-            totals-after w h full site (held mask site) M frame T C clear
+            sym (again .1 .1 .1 .0)
             ∙ ap (λ (c : ℕ). amended w h site (seenAt c (held frame site)) (seenAt (held mask site) (held frame site)) T) here
             ∙ amended-back w h site _ _ totals (le-trans (a .old-low) high) (le-trans (a .new-low) high) total-words;
         makes-counts =
-            counts-after w h full site (held mask site) M frame T C clear
+            sym (again .1 .1 .1 .1)
             ∙ ap (λ (c : ℕ). amended w h site (seenAt c 1) (seenAt (held mask site) 1) C) here
             ∙ amended-back w h site _ _ counts (seen-le (held mask site) 1 4095 (omega arith)) (seen-le code 1 4095 (omega arith)) count-words;
       }

@@ -3,7 +3,7 @@ use Prim.Native.Nat.{ℕ, _+_, _*_, _/_, _%_, _≤_, _<_}
 use mathlib.Core.Bool.{Bool, true, false, cond, _&&_}
 use mathlib.Core.List.{List}
 use mathlib.Core.Logic.{⊎-elim}
-use mathlib.Core.Path.{_≡_, refl, sym, ap, _∙_}
+use mathlib.Core.Path.{_≡_, refl, sym, ap, _∙_, subst}
 use native.Mathlib.Nat.{lt-irrefl, mod-lt, div-add-mod', div-lt-iff-lt-mul, mul-comm}
 use native.Mathlib.Omega.{arith}
 use lib.Arith.{digits-div, digits-mod, digits-lt}
@@ -17,11 +17,12 @@ use Rattle.window.specs.Shape.{badSides}
 use Rattle.plane.specs.Plane.{planeOf, planeRow, planeColumn}
 use Rattle.plane.specs.declared.PlaneBox.{PlaneBox}
 use Rattle.colour.specs.Centre.{centreOf}
-use Rattle.blocks.specs.Areas.{blocksAcross, blocksDown, blocksOf, areasOf, blockOf, areaOf, entriesOf, entryPlane, entryArea, inBox, liesIn}
+use Rattle.blocks.specs.Areas.{blocksAcross, blocksDown, blocksOf, areasOf, areaOf, entriesOf, entryAt, entryPlane, entryArea, inBox, liesIn}
 use Rattle.blocks.specs.Recode.{amend, amended, recoded}
 use Rattle.blocks.specs.Walk.{blockEntry, centreEntry, amendedAt}
-use Rattle.blocks.proofs.Areas.{blocks-are, some-across, area-block, area-centre}
+use Rattle.blocks.proofs.Areas.{blocks-are, some-across, area-centre}
 use Rattle.blocks.proofs.Sites.{Lies, lies, lies-in}
+use Rattle.blocks.proofs.Grid.{lies-in-block, block-lies}
 
 -- two tests are one where each holds where the other does
 same-test : (a b : Bool) → (a ≡ true → b ≡ true) → (b ≡ true → a ≡ true) → a ≡ b
@@ -68,40 +69,27 @@ module _ (w h site e : ℕ) (in-table : e < entriesOf w h) where
     turned : blocksOf w h ≡ blocksDown h * blocksAcross w
     turned = blocks-are w h legal ∙ mul-comm (blocksAcross w) (blocksDown h)
 
-    block : areaOf w h (entryArea w h e) ≡ blockOf w (entryArea w h e)
-    block = area-block w h (entryArea w h e) in-blocks
-
     found : liesIn w h site e ≡ true → eqb e (blockEntry w h site) ≡ true
     unfolding blockEntry
     found t =
         let k = entryArea w h e in
-        let l : Lies w h site e = lies w h site e t in
-        let row : planeRow w site / 12 ≡ k / blocksAcross w = omega (arith, l .top, l .bottom, ap (λ (b : PlaneBox). b .top) block, ap (λ (b : PlaneBox). b .bottom) block) in
-        let column : planeColumn w site / 16 ≡ k % blocksAcross w = omega (arith, l .left, l .right, ap (λ (b : PlaneBox). b .left) block, ap (λ (b : PlaneBox). b .right) block) in
         let low : k / blocksAcross w < blocksDown h = div-lt-iff-lt-mul across .1 (omega (arith, turned)) in
         let near : k % blocksAcross w < blocksAcross w = mod-lt k across in
-        rw (row, column, lt-ltb (k / blocksAcross w) (blocksDown h) low, lt-ltb (k % blocksAcross w) (blocksAcross w) near, l .plane, div-add-mod' k (blocksAcross w))
-        (eq-eqb e (entryPlane w h e * areasOf w h + k) (sym (div-add-mod' e (areasOf w h))))
+        let at : e ≡ entryAt w h (entryPlane w h e) (k / blocksAcross w * blocksAcross w + k % blocksAcross w) =
+        sym (ap (entryAt w h (entryPlane w h e)) (div-add-mod' k (blocksAcross w)) ∙ div-add-mod' e (areasOf w h)) in
+        let i = lies-in-block w h site (entryPlane w h e) _ _ legal low near (subst (λ (x : ℕ). Lies w h site x) at (lies w h site e t)) in
+        rw (i .row, i .column, lt-ltb (k / blocksAcross w) (blocksDown h) low, lt-ltb (k % blocksAcross w) (blocksAcross w) near, i .of) (eq-eqb _ _ at)
 
     back : eqb e (blockEntry w h site) ≡ true → liesIn w h site e ≡ true
     unfolding blockEntry
     back at =
         let row = planeRow w site / 12 in
         let column = planeColumn w site / 16 in
-        let entry = chosen (ltb row (blocksDown h) && ltb column (blocksAcross w)) (planeOf w site * areasOf w h + (row * blocksAcross w + column)) (entriesOf w h) e in-table at in
+        let entry = chosen (ltb row (blocksDown h) && ltb column (blocksAcross w)) (entryAt w h (planeOf w site) (row * blocksAcross w + column)) (entriesOf w h) e in-table at in
         let grid = and-true (ltb row (blocksDown h)) (ltb column (blocksAcross w)) (entry .0) in
-        let near = ltb-true column (blocksAcross w) (grid .1) in
-        let k : row * blocksAcross w + column < areasOf w h = omega (arith, digits-lt (ltb-true row (blocksDown h) (grid .0)) near, turned) in
-        let area : entryArea w h e ≡ row * blocksAcross w + column = ap (λ (x : ℕ). x % areasOf w h) (entry .1) ∙ digits-mod (planeOf w site) k in
-        let rows : entryArea w h e / blocksAcross w ≡ row = ap (λ (x : ℕ). x / blocksAcross w) area ∙ digits-div row near in
-        let columns : entryArea w h e % blocksAcross w ≡ column = ap (λ (x : ℕ). x % blocksAcross w) area ∙ digits-mod row near in
-        lies-in w h site e (record {
-          plane = sym (ap (λ (x : ℕ). x / areasOf w h) (entry .1) ∙ digits-div (planeOf w site) k);
-          top = omega (arith, rows, ap (λ (b : PlaneBox). b .top) block);
-          bottom = omega (arith, rows, ap (λ (b : PlaneBox). b .bottom) block);
-          left = omega (arith, columns, ap (λ (b : PlaneBox). b .left) block);
-          right = omega (arith, columns, ap (λ (b : PlaneBox). b .right) block);
-        })
+        lies-in w h site e
+        (subst (λ (x : ℕ). Lies w h site x) (sym (entry .1))
+        (block-lies w h site (planeOf w site) row column legal (ltb-true row (blocksDown h) (grid .0)) (ltb-true column (blocksAcross w) (grid .1)) (record { of = refl; row = refl; column = refl })))
 
   -- an entry of a plane's centre
   module _ (last : entryArea w h e ≡ blocksOf w h) where

@@ -2,6 +2,7 @@ pub mod Areas
 pub mod Stores
 pub mod Judged
 pub mod Sites
+pub mod Grid
 pub mod Entries
 pub mod Amends
 pub mod Told

@@ -1,32 +1,34 @@
 -- What is promised of `shading_table` and `shading_recode`, for any sides, full scale, site, code, mask, frame, totals and counts.
-use Prim.Native.Nat.{ℕ, _+_, _-_, _*_, _^_, _%_, _≤_, _<_}
+use Prim.Native.Nat.{ℕ, _+_, _-_, _*_, _^_, _/_, _%_, _≤_, _<_}
 use mathlib.Core.Bool.{false, cond}
 use mathlib.Core.List.{List}
-use mathlib.Core.Logic.{_⊎_, inl, inr}
+use mathlib.Core.Logic.{_⊎_, inl, inr, ⊎-elim}
 use mathlib.Core.Path.{_≡_, refl, ap, _∙_}
 use native.Mathlib.Nat.{mul-comm}
 use native.Mathlib.Omega.{arith}
 use lib.ListN.{length}
 use Rattle.laws.specs.First.{countTo}
 use Rattle.laws.specs.Table.{held}
+use Rattle.laws.proofs.Cases.{lt-or-ge}
 use Rattle.laws.proofs.Tables.{getD-tabulate}
 use Rattle.laws.proofs.Sole.{Sole, sole}
 use Rattle.verdict.proofs.Verdicts.{Tabled, RefusesCounting, no-six, also, refuses-counting}
 use Rattle.verdict.proofs.Answers.{counted-told}
-use Rattle.window.specs.Shape.{sitesOf}
+use Rattle.window.specs.Shape.{badSides, sitesOf}
 use Rattle.window.specs.View.{seenAt, seen, one, above}
 use Rattle.window.proofs.Sides.{sides}
 use Rattle.window.proofs.Views.{Agree, same-view, one-le, seen-in, seen-out, seen-counted}
 use Rattle.refusals.specs.Judge.{frameVerdict}
 use Rattle.refusals.proofs.Ranges.{one-counting}
-use Rattle.plane.specs.Plane.{planeRow, planeColumn}
-use Rattle.colour.specs.Centre.{centreOf}
-use Rattle.blocks.specs.Areas.{blocksAcross, blocksDown, areaSites, entriesOf, entryArea, liesIn}
+use Rattle.plane.specs.Plane.{planeOf, planeRow, planeColumn}
+use Rattle.blocks.specs.Areas.{blocksOf, blockOf, areaSites, entriesOf, entryArea, liesIn}
 use Rattle.blocks.specs.Table.{entrySum, tableVerdict, tableAnswer, paperOf, tablePaper, tableTotals, tableCounts}
 use Rattle.blocks.specs.Recode.{overEither, amend, recodeVerdict, recodeAnswer, recodePaper, recodeMask, recodeTotals, recodeCounts}
 use Rattle.blocks.specs.declared.Shaded.the-variants.{Done}
 use Rattle.blocks.proofs.Judged.{table-tests, table-tabled, over-same, recode-tests, recode-tabled}
-use Rattle.blocks.proofs.Sites.{Lies, lies-in, lies-not, entry-few, entry-at-most, in-no-area}
+use Rattle.blocks.proofs.Sites.{Lies, lies-in, lies-not, entry-few, entry-at-most}
+use Rattle.blocks.proofs.Grid.{InBlock, InCentre, lies-in-block, block-lies, lies-in-centre, centre-lies}
+use Rattle.blocks.proofs.Areas.{blocks-are, area-block, block-in, area-centre}
 use Rattle.blocks.proofs.Amends.{shown-alike, amend-off, amend-on, Words, amended-at, amended-nowhere, amended-same, recoded-long, recoded-here, recoded-else}
 use Rattle.blocks.proofs.Afresh.{Makes, made, TableOf, summed-table, table-summed, made-summed, still-summed}
 use Rattle.blocks.proofs.Back.{undone}
@@ -70,14 +72,14 @@ module _ (w h full : ℕ) (mask frame totals counts : List ℕ) where
   table-of done = summed-table w h full mask frame _ _ (made-summed w h full mask frame totals counts done)
 
 -- an entry that can be: no more is counted than the area has sites, and no more than full scale for each that is
-pub record Possible (w h full e total count : ℕ) : Type 0 where
-  pub few : count ≤ areaSites w h (entryArea w h e)
+pub record Credible (full sites total count : ℕ) : Type 0 where
+  pub few : count ≤ sites
   pub low : total ≤ count * full
 
--- own-possible: every entry of the table of a mask and a frame is possible, so of a table that is made, and of one recoded
-pub own-possible : (w h full : ℕ) (mask frame totals counts : List ℕ) → TableOf w h full mask frame totals counts
-    → (e : ℕ) → e < entriesOf w h → Possible w h full e (held totals e) (held counts e)
-own-possible w h full mask frame totals counts is e below =
+-- own-credible: so is every entry of the table of a mask and a frame, so of a table that is made, and of one recoded
+pub own-credible : (w h full : ℕ) (mask frame totals counts : List ℕ) → TableOf w h full mask frame totals counts
+    → (e : ℕ) → e < entriesOf w h → Credible full (areaSites w h (entryArea w h e)) (held totals e) (held counts e)
+own-credible w h full mask frame totals counts is e below =
     let s = table-summed w h full mask frame totals counts is in
     let sites = sides w h (s .lent .of .legal) .sites in
     let most = entry-at-most w h e full (one mask) (seen mask frame) (λ i l. seen-counted mask frame full i (s .lent .range i (omega arith))) in
@@ -154,12 +156,42 @@ module _ (w h full site code : ℕ) (mask frame totals counts : List ℕ) where
       let v = same-verdict mask′ frame′ long-mask long-frame codes (ap (overEither full (held mask site) code) samples) in
       record { same-answer = rw v; same-totals = rw (v, codes, samples); same-counts = rw (v, codes) }
 
--- left over: a site past the last whole block across or down, and outside its plane's centre, lies in no area
-pub left-over : (w h site : ℕ)
-    → (12 * blocksDown h ≤ planeRow w site) ⊎ (16 * blocksAcross w ≤ planeColumn w site)
-    → (centreOf w h .top ≤ planeRow w site → planeRow w site < centreOf w h .bottom → centreOf w h .left ≤ planeColumn w site → planeColumn w site < centreOf w h .right → ⊥)
-    → (e : ℕ) → liesIn w h site e ≡ false
-left-over = in-no-area
+-- ---- where the areas lie
+-- grid: a plane of a legal window has w / 2 / 16 blocks across and h / 2 / 12 down, rounded down
+pub grid : (w h : ℕ) → badSides w h ≡ false → blocksOf w h ≡ w / 2 / 16 * (h / 2 / 12)
+grid = blocks-are
+
+-- block-placed: the block in row r and column c of that grid, from the plane's top left, has just the sites of the plane's rows 12 r to 12 r + 11 and columns
+-- 16 c to 16 c + 15, and its entry is r × (w / 2 / 16) + c of the plane's
+pub block-placed : (w h site plane r c : ℕ) → badSides w h ≡ false → r < h / 2 / 12 → c < w / 2 / 16
+    → (Lies w h site (plane * (blocksOf w h + 1) + (r * (w / 2 / 16) + c)) → InBlock w site plane r c)
+    × (InBlock w site plane r c → Lies w h site (plane * (blocksOf w h + 1) + (r * (w / 2 / 16) + c)))
+block-placed w h site plane r c legal low near =
+    (lies-in-block w h site plane r c legal low near, block-lies w h site plane r c legal low near)
+
+-- centre-placed: the last entry of a plane's has just the sites of its centre
+pub centre-placed : (w h site plane : ℕ)
+    → (Lies w h site (plane * (blocksOf w h + 1) + blocksOf w h) → InCentre w h site plane)
+    × (InCentre w h site plane → Lies w h site (plane * (blocksOf w h + 1) + blocksOf w h))
+centre-placed w h site plane = (lies-in-centre w h site plane, centre-lies w h site plane)
+
+-- left-over: a site past the last whole block across or down, and outside its plane's centre, lies in no area
+pub left-over : (w h site : ℕ) → (12 * (h / 2 / 12) ≤ planeRow w site) ⊎ (16 * (w / 2 / 16) ≤ planeColumn w site)
+    → (InCentre w h site (planeOf w site) → ⊥) → (e : ℕ) → Lies w h site e → ⊥
+left-over w h site past outside e l = ⊎-elim in-block at-centre (lt-or-ge (entryArea w h e) (blocksOf w h))
+  where
+    in-block : entryArea w h e < blocksOf w h → ⊥
+    in-block k =
+        let ends = block-in w h (entryArea w h e) k in
+        let is = area-block w h (entryArea w h e) k in
+        let row : planeRow w site < blockOf w (entryArea w h e) .bottom = rw is at (l .bottom) in
+        let column : planeColumn w site < blockOf w (entryArea w h e) .right = rw is at (l .right) in
+        ⊎-elim (λ low. omega (arith, ends .0)) (λ low. omega (arith, ends .1)) past
+
+    at-centre : blocksOf w h ≤ entryArea w h e → ⊥
+    at-centre k =
+        let is = area-centre w h (entryArea w h e) k in
+        outside (record { of = refl; top = rw is at (l .top); bottom = rw is at (l .bottom); left = rw is at (l .left); right = rw is at (l .right) })
 
 -- of an accepted call, which makes of a mask, totals and counts these others (`Makes`)
 module _ (w h full site code : ℕ) (frame mask totals counts mask′ totals′ counts′ : List ℕ) (makes : Makes w h full site code frame mask totals counts mask′ totals′ counts′) where
@@ -187,12 +219,11 @@ module _ (w h full site code : ℕ) (frame mask totals counts mask′ totals′ 
       (m .totals-is ∙ rw (again (held frame site)) (amended-same w h site _ totals t), m .counts-is ∙ rw (again 1) (amended-same w h site _ counts c))
 
   -- so the recode of a site that is left over changes the mask alone, with any table
-  pub left-over-stays : (12 * blocksDown h ≤ planeRow w site) ⊎ (16 * blocksAcross w ≤ planeColumn w site)
-      → (centreOf w h .top ≤ planeRow w site → planeRow w site < centreOf w h .bottom → centreOf w h .left ≤ planeColumn w site → planeColumn w site < centreOf w h .right → ⊥)
+  pub left-over-stays : (12 * (h / 2 / 12) ≤ planeRow w site) ⊎ (16 * (w / 2 / 16) ≤ planeColumn w site) → (InCentre w h site (planeOf w site) → ⊥)
       → (totals′ ≡ totals) × (counts′ ≡ counts)
   left-over-stays past outside =
       let m = made makes in
-      let out = left-over w h site past outside in
+      let out : (e : ℕ) → liesIn w h site e ≡ false = λ e. lies-not w h site e (left-over w h site past outside e) in
       (m .totals-is ∙ amended-nowhere w h site _ _ totals out, m .counts-is ∙ amended-nowhere w h site _ _ counts out)
 
   -- entry e of the table

@@ -7,15 +7,14 @@ use native.Mathlib.Nat.{mod-lt, div-lt-iff-lt-mul}
 use native.Mathlib.Omega.{arith}
 use lib.Dec.{eqb, leb, ltb}
 use borrow.Author.Tests.{eqb-true, eq-eqb, leb-true, le-leb, ltb-true, lt-ltb}
-use Rattle.laws.proofs.Cases.{and-true, true-or-false, lt-or-ge, not-both}
+use Rattle.laws.proofs.Cases.{and-true, true-or-false, not-both}
 use Rattle.window.proofs.Sides.{Sides}
 use Rattle.plane.specs.Plane.{planeOf, planeRow, planeColumn}
 use Rattle.plane.specs.declared.PlaneBox.{PlaneBox}
 use Rattle.plane.proofs.Planes.{box-few, box-at-most, box-changed-in, box-changed-out}
-use Rattle.colour.specs.Centre.{centreOf}
-use Rattle.blocks.specs.Areas.{blocksAcross, blocksDown, blocksOf, blockOf, areasOf, areaOf, areaSites, entriesOf, entryPlane, entryArea, inBox, liesIn}
+use Rattle.blocks.specs.Areas.{areasOf, areaOf, areaSites, entriesOf, entryPlane, entryArea, inBox, liesIn}
 use Rattle.blocks.specs.Table.{entrySum}
-use Rattle.blocks.proofs.Areas.{area-block, block-in, area-centre, sites-few}
+use Rattle.blocks.proofs.Areas.{sites-few}
 
 -- a site lies in the area of entry e
 pub record Lies (w h site e : ℕ) : Type 0 where
@@ -106,25 +105,3 @@ module _ (w h e : ℕ) where
   entry-fits f low =
       let ones : ℕ → ℕ = λ i. 1 in
       omega (arith, entry-at-most 4095 ones f (λ i l. omega (arith, low i l)), entry-few ones (λ i. omega arith), sites-few w h (entryArea w h e))
-
--- what is left over at the right and lower edge, and is not in the centre, lies in no area
-pub in-no-area : (w h site : ℕ)
-    → (12 * blocksDown h ≤ planeRow w site) ⊎ (16 * blocksAcross w ≤ planeColumn w site)
-    → (centreOf w h .top ≤ planeRow w site → planeRow w site < centreOf w h .bottom → centreOf w h .left ≤ planeColumn w site → planeColumn w site < centreOf w h .right → ⊥)
-    → (e : ℕ) → liesIn w h site e ≡ false
-in-no-area w h site past outside e =
-    lies-not w h site e
-    (λ l. ⊎-elim (in-block l) (in-centre l) (lt-or-ge (entryArea w h e) (blocksOf w h)))
-  where
-    in-block : Lies w h site e → entryArea w h e < blocksOf w h → ⊥
-    in-block l k =
-        let ends = block-in w h (entryArea w h e) k in
-        let is = area-block w h (entryArea w h e) k in
-        let row : planeRow w site < blockOf w (entryArea w h e) .bottom = rw is at (l .bottom) in
-        let column : planeColumn w site < blockOf w (entryArea w h e) .right = rw is at (l .right) in
-        ⊎-elim (λ low. omega (arith, ends .0)) (λ low. omega (arith, ends .1)) past
-
-    in-centre : Lies w h site e → blocksOf w h ≤ entryArea w h e → ⊥
-    in-centre l k =
-        let is = area-centre w h (entryArea w h e) k in
-        outside (rw is at (l .top)) (rw is at (l .bottom)) (rw is at (l .left)) (rw is at (l .right))

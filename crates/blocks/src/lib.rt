@@ -14,6 +14,7 @@ use plane::PlaneBox;
 use verdict::Refusal;
 use verdict::Verdict;
 
+// Done, or a refusal.
 pub enum Shaded {
     Done,
     Refused(Refusal),

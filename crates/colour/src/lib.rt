@@ -10,7 +10,7 @@ use plane::Sums;
 use verdict::Refusal;
 use verdict::Verdict;
 
-// A ratio over Gr, unreduced.
+// A colour over a green, unreduced.
 pub struct Ratio {
     pub numerator: i64,
     pub denominator: u64,

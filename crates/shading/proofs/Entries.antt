@@ -11,7 +11,6 @@ use lib.ListN.{getD}
 use Rattle.laws.specs.Table.{held}
 use Rattle.laws.proofs.Cases.{times-le}
 use Rattle.laws.proofs.Tables.{getD-tabulate}
-use Rattle.verdict.specs.declared.Verdict.the-variants as verdict
 use Rattle.window.specs.Shape.{sitesOf}
 use Rattle.window.specs.View.{surveyed, seen, one}
 use Rattle.window.proofs.Sides.{sides}

@@ -22,17 +22,14 @@ use Rattle.refusals.specs.Judge.{otherThan}
 use Rattle.refusals.proofs.Chains.{shape-tabled, same-length}
 use Rattle.colour.specs.Centre.{tooSmall}
 use Rattle.blocks.specs.Areas.{blocksOf, areaSites, entriesOf, entryArea}
+use Rattle.blocks.proofs.Promises.{Credible}
 use Rattle.shading.specs.Judge.{badLimit, impossible, impossibleAt, impossibleIn, lentVerdict, judgeVerdict, shadeAt, shadesOf, judgeAnswer, paperOf, judgePaper, judgeBuffer, judgeNumerators, judgeDenominators, judgeRefusals, judgeFails}
 use Rattle.shading.specs.declared.Asked.{Asked}
 use Rattle.shading.specs.declared.Lengths.{Lengths}
 use Rattle.shading.specs.declared.Shade.{Shade}
 use Rattle.shading.specs.declared.Judged.the-variants.{Done, Refused}
 
--- an entry that 11 lets pass: no count above its sites, no total above count × full scale
-pub record Credible (full sites total count : ℕ) : Type 0 where
-  pub few : count ≤ sites
-  pub low : total ≤ count * full
-
+-- an entry that 11 lets pass
 module _ (full sites total count : ℕ) where
   pub credible-entry : impossible full sites total count ≡ false → Credible full sites total count
   unfolding impossible

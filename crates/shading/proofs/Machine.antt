@@ -51,13 +51,13 @@ laid-so : {z : ℤ} {n : ℕ} (p : Product z n) → Is (timed z n) (p .up) (p .d
 laid-so p = record { val = p .val ∙ p .is; up = omega arith; down = omega arith }
 
 -- a/b in a block of 192 sites, and c/d in a centre of 768
-module _ {block centre : Ratio} (of-block : Small 150958080 block) (of-centre : Small 2415329280 centre) where
+module _ {block centre : Ratio} (of-block : Small (4095 * 192 * 192) block) (of-centre : Small (4095 * 768 * 768) centre) where
   -- c × b and a × d
   pub c-times-b : Product (centre .numerator) (block .denominator)
-  c-times-b = product (centre .numerator) (block .denominator) 2415329280 150958080 (of-centre .up) (of-block .down) (omega arith) (omega arith) (omega arith)
+  c-times-b = product (centre .numerator) (block .denominator) (4095 * 768 * 768) (4095 * 192 * 192) (of-centre .up) (of-block .down) (omega arith) (omega arith) (omega arith)
 
   pub a-times-d : Product (block .numerator) (centre .denominator)
-  a-times-d = product (block .numerator) (centre .denominator) 150958080 2415329280 (of-block .up) (of-centre .down) (omega arith) (omega arith) (omega arith)
+  a-times-d = product (block .numerator) (centre .denominator) (4095 * 192 * 192) (4095 * 768 * 768) (of-block .up) (of-centre .down) (omega arith) (omega arith) (omega arith)
 
   pub offset-fits : SFits w64 (toZ w64 (timed (block .numerator) (centre .denominator)) -ℤ toZ w64 (timed (centre .numerator) (block .denominator)))
   offset-fits = let ad = a-times-d in let cb = c-times-b in sub-fits (laid-so ad) (laid-so cb) (omega arith) (omega arith)

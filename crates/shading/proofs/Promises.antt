@@ -1,6 +1,6 @@
 -- What is promised of `shading_judge`, for any numbers, any table and any buffers.
-use Prim.Native.Nat.{ℕ, _+_, _*_, _/_, _%_, _≤_, _<_}
-use mathlib.Core.Bool.{true, false}
+use Prim.Native.Nat.{ℕ, _+_, _*_, _^_, _/_, _%_, _≤_, _<_}
+use mathlib.Core.Bool.{true}
 use mathlib.Core.List.{List}
 use mathlib.Core.Logic.{_⊎_}
 use mathlib.Core.Path.{_≡_, refl, ap, _∙_}
@@ -23,19 +23,31 @@ use Rattle.window.specs.View.{surveyed}
 use Rattle.plane.specs.Plane.{planeOf}
 use Rattle.colour.specs.Bayer.{mosaicOf}
 use Rattle.blocks.specs.Areas.{blocksOf, areaSites, entriesOf, entryAt, entryArea}
-use Rattle.blocks.proofs.Areas.{entry-below, entry-plane}
+use Rattle.blocks.proofs.Areas.{block-sites, centre-sites, entry-below, entry-plane, entry-area}
 use Rattle.blocks.proofs.Afresh.{TableOf}
-use Rattle.blocks.proofs.Promises.{own-possible}
-use Rattle.shading.specs.Judge.{asked, lengths, impossible, impossibleAt, impossibleIn, judgeVerdict, planesOf, planes, shadeIn, shadeAt, judgeAnswer, paperOf, judgePaper, judgeBuffer, judgeNumerators, judgeDenominators, judgeRefusals, judgeFails}
+use Rattle.blocks.proofs.Promises.{Credible, own-credible}
+use Rattle.shading.specs.Judge.{asked, lengths, impossible, impossibleAt, impossibleIn, judgeVerdict, planesOf, planes, shadeIn, judgeAnswer, paperOf, judgePaper, judgeBuffer, judgeNumerators, judgeDenominators, judgeRefusals, judgeFails}
 use Rattle.shading.specs.declared.Asked.{Asked}
 use Rattle.shading.specs.declared.Lengths.{Lengths}
 use Rattle.shading.specs.declared.Shade.{Shade}
 use Rattle.shading.specs.declared.Judged.the-variants.{Done}
-use Rattle.shading.proofs.Judging.{Accepted, tests, table, accepted, done-clear, written}
-use Rattle.shading.proofs.Shades.{Told, Fits, Measured, flat-shade, told-seven, told-ten, told-none, told-one, told-zeros, measured}
+use Rattle.shading.proofs.Judging.{Lent, tests, table, accepted, credible, done-clear, written}
+use Rattle.shading.proofs.Shades.{Told, Measured, flat-shade, told-seven, told-ten, told-none, told-one, told-zeros, measured}
 use Rattle.shading.proofs.Shades as shades
 use Rattle.shading.proofs.Limits.{same-answer, eased-at, same-buffer, still-passes}
 use Rattle.shading.proofs.Entries.{in-four, area, shade-in, shade-at, shade-fits, even-entry}
+
+-- where every entry is credible, 11 is not given
+eleven-only : (call : Asked) (long : Lengths) (totals counts : List ℕ) → judgePaper call long totals counts .number ≡ 11
+    → ((e : ℕ) → e < entriesOf (call .width) (call .height)
+    → Credible (call .full) (areaSites (call .width) (call .height) (entryArea (call .width) (call .height) e)) (held totals e) (held counts e))
+    → ⊥
+unfolding judgePaper impossibleIn impossible
+eleven-only call long totals counts e all =
+    let none = nowhere-first (impossibleAt (call .width) (call .height) (call .full) totals counts) (entriesOf (call .width) (call .height)) (λ e l.
+    let can = all e l in
+    rw (le-ltb (areaSites (call .width) (call .height) (entryArea (call .width) (call .height) e)) (held counts e) (can .few), le-ltb (held counts e * call .full) (held totals e) (can .low))) in
+    never-given (judgeVerdict call long totals counts) (table call long totals counts) (rw none) (omega arith) e
 
 -- what four buffers hold at place j is one block and ratio's
 pub record Holds (numerators denominators refusals fails : List ℕ) (j : ℕ) (s : Shade) : Type 0 where
@@ -84,14 +96,35 @@ module _ (call : Asked) (totals counts numerators denominators refusals fails : 
   pub no-over : overOf (judgeVerdict call long totals counts) ≡ 0
   no-over = never-over (judgeVerdict call long totals counts) given refl refl
 
+  -- eleven: 11 is given only where some entry is not credible
+  pub eleven : judgePaper call long totals counts .number ≡ 11
+      → ((e : ℕ) → e < entriesOf (call .width) (call .height)
+      → Credible (call .full) (areaSites (call .width) (call .height) (entryArea (call .width) (call .height) e)) (held totals e) (held counts e))
+      → ⊥
+  eleven = eleven-only call long totals counts
+
   -- ---- of an accepted call
   module _ (done : judgeAnswer call long totals counts ≡ Done) where
     clear : judgeVerdict call long totals counts ≡ verdict.Clear
     clear = done-clear call long totals counts done
 
-    -- limited: its sides, numbers, lengths and entries are all within document 02's limits
-    pub limited : Accepted call long totals counts
-    limited = accepted call long totals counts clear
+    -- limited: its sides, numbers and lengths are all within document 02's limits
+    pub limited : Lent call long (length totals) (length counts)
+    limited = accepted call long totals counts clear .of
+
+    -- credible: and so are its entries: in each area no count is above its sites, 192 of a block and 768 of a centre, and no total above count × full scale
+    pub credible-block : (plane k : ℕ) → plane < 4 → k < blocksOf (call .width) (call .height)
+        → Credible (call .full) 192 (held totals (entryAt (call .width) (call .height) plane k)) (held counts (entryAt (call .width) (call .height) plane k))
+    credible-block plane k few l =
+        rw (entry-area (call .width) (call .height) plane k (omega arith), block-sites (call .width) (call .height) k l) at
+        (credible (call .width) (call .height) (call .full) totals counts (accepted call long totals counts clear .possible) (entryAt (call .width) (call .height) plane k) (entry-below (call .width) (call .height) plane k (omega arith) few))
+
+    pub credible-centre : (plane : ℕ) → plane < 4 → let e = entryAt (call .width) (call .height) plane (blocksOf (call .width) (call .height)) in
+        Credible (call .full) 768 (held totals e) (held counts e)
+    credible-centre plane few =
+        let k = blocksOf (call .width) (call .height) in
+        rw (entry-area (call .width) (call .height) plane k (omega arith), centre-sites (call .width) (call .height) k (omega arith)) at
+        (credible (call .width) (call .height) (call .full) totals counts (accepted call long totals counts clear .possible) (entryAt (call .width) (call .height) plane k) (entry-below (call .width) (call .height) plane k (omega arith) few))
 
     -- told: the buffers hold every block and ratio, all of R/Gr (ratio 0) before all of B/Gb (ratio 1)
     pub told : (ratio k : ℕ) → ratio < 2 → k < blocksOf (call .width) (call .height)
@@ -114,8 +147,10 @@ module _ (call : Asked) (totals counts numerators denominators refusals fails : 
       block-in = mod-lt j (omega arith)
 
       -- bounds: every numerator and denominator is below 2^60, so that 16 times either fits 64 bits
-      pub bounds : Fits (shadeAt call totals counts j)
-      bounds = shade-fits call long totals counts limited _ _ block-in
+      pub bounds : (held (judgeNumerators call long totals counts numerators) j < 2 ^ 60) × (held (judgeDenominators call long totals counts denominators) j < 2 ^ 60)
+      bounds =
+          let f = shade-fits call long totals counts (accepted call long totals counts clear) _ _ block-in in
+          (rw (written call long totals counts clear _ numerators j inside) (f .numerator), rw (written call long totals counts clear _ denominators j inside) (f .denominator))
 
       -- flat: where in each plane every total is one sample × count, every numerator is 0
       pub flat : (s : ℕ → ℕ)
@@ -274,16 +309,7 @@ module _ (w h full : ℕ) (mask frame totals counts : List ℕ) (is : TableOf w 
       even-entry w h full mask frame totals counts is s same (entryAt w h plane k) (entry-below w h plane k last few)
       ∙ ap (λ (p : ℕ). s p * held counts (entryAt w h plane k)) (entry-plane w h plane k last))
 
-  none-impossible : impossibleIn w h full totals counts ≡ false
-  unfolding impossibleIn impossible
-  none-impossible = nowhere-first (impossibleAt w h full totals counts) (entriesOf w h) (λ e l.
-      let can = own-possible w h full mask frame totals counts is e l in
-      rw (le-ltb (areaSites w h (entryArea w h e)) (held counts e) (can .few), le-ltb (held counts e * full) (held totals e) (can .low)))
-
   -- own-table: judged with its own sides and full scale it never gets 11, whatever the other numbers and the buffers' lengths
   pub own-table : (black order limit : ℕ) (long : Lengths) → judgePaper (asked w h full black order limit) long totals counts .number ≡ 11 → ⊥
-  unfolding judgePaper
-  own-table black order limit long =
-      never-given (judgeVerdict (asked w h full black order limit) long totals counts)
-      (table (asked w h full black order limit) long totals counts)
-      (rw none-impossible) (omega arith)
+  own-table black order limit long e =
+      eleven-only (asked w h full black order limit) long totals counts e (own-credible w h full mask frame totals counts is)

@@ -6,7 +6,7 @@ use mathlib.Core.Logic.{⊎-elim}
 use mathlib.Core.Path.{_≡_, refl, sym, ap, _∙_}
 use native.Mathlib.Nat.{le-trans, add-mul, zero-mul, one-mul, mod-lt, div-add-mod'}
 use native.Mathlib.Omega.{arith}
-use lib.Arith.{digits-div, digits-mod}
+use lib.Arith.{digits-mod}
 use lib.Dec.{ltb}
 use lib.ListN.{length}
 use borrow.Author.Tests.{lt-ltb, le-ltb}
@@ -25,7 +25,7 @@ use Rattle.shading.specs.Walk.{Whole, Possible, Stored}
 use Rattle.shading.specs.declared.Asked.{Asked}
 use Rattle.shading.specs.declared.Planes.{Planes}
 use Rattle.shading.specs.declared.Shade.{Shade}
-use Rattle.shading.proofs.Entries.{InFour, entry-possible, tint-possible}
+use Rattle.shading.proofs.Entries.{InFour, shade-at, entry-possible, tint-possible}
 
 -- the area of the next entry
 pub next-area : (e areas : ℕ) → 0 < areas → cond (ltb (e % areas + 1) areas) (e % areas + 1) 0 ≡ (e + 1) % areas
@@ -71,8 +71,7 @@ both-halves part given totals counts lent first second long r b =
 
     at : (ratio k j : ℕ) → k < blocks → ratio * blocks + k ≡ j → (l : List ℕ) → held l (ratio * blocks + k) ≡ part (shadeIn given totals counts ratio k)
         → held l j ≡ part (shadeAt given totals counts j)
-    at ratio k j below is l e =
-        rw (← is, digits-div ratio below, digits-mod ratio below) e
+    at ratio k j below is l e = rw (← is) (e ∙ sym (ap part (shade-at given totals counts ratio k below)))
 
 module _ (w h : ℕ) where
   -- 11 of one entry more: where the walk begins, a turn, and its end

@@ -31,13 +31,12 @@ tooDark black block centre =
     notAbove (aboveBlack black (block .green))
     || (notAbove (aboveBlack black (centre .green)) || notAbove (aboveBlack black (centre .colour)))
 
--- with a/b in the block and c/d at the centre: a × d − c × b, and c × b
-abbrev pub offset : Ratio → Ratio → ℤ
-offset block centre =
-    block .numerator *ℤ pos (centre .denominator) -ℤ centre .numerator *ℤ pos (block .denominator)
-
+-- with a/b in the block and c/d at the centre: c × b, and a × d − c × b
 abbrev pub base : Ratio → Ratio → ℤ
 base block centre = centre .numerator *ℤ pos (block .denominator)
+
+abbrev pub offset : Ratio → Ratio → ℤ
+offset block centre = block .numerator *ℤ pos (centre .denominator) -ℤ base block centre
 
 -- |a × d − c × b| over c × b fails where it is above so many sixteenths
 unfoldable pub fails : ℕ → ℕ → ℕ → Bool

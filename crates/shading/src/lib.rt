@@ -16,6 +16,7 @@ use plane::Sums;
 use verdict::Refusal;
 use verdict::Verdict;
 
+// Done, or a refusal.
 pub enum Judged {
     Done,
     Refused(Refusal),
@@ -233,7 +234,7 @@ fn fail_of(limit: u64, numerator: u64, denominator: u64) -> u8
 
 // The shade of a/b in a block beside c/d at the centre.
 fn judged_shade(limit: u64, block: Ratio, centre: Ratio) -> Shade
-    requires { ⌜ (limit ≤ 16) × (natAbs (block .numerator) ≤ 150958080) × (block .denominator ≤ 150958080) × (natAbs (centre .numerator) ≤ 2415329280) × (centre .denominator ≤ 2415329280) ⌝ }
+    requires { ⌜ (limit ≤ 16) × (natAbs (block .numerator) ≤ 4095 * 192 * 192) × (block .denominator ≤ 4095 * 192 * 192) × (natAbs (centre .numerator) ≤ 4095 * 768 * 768) × (centre .denominator ≤ 4095 * 768 * 768) ⌝ }
     ensures { λ r. ⌜ r ≡ judgedShade limit block centre ⌝ }
 {
     let base = centre.numerator * block.denominator as i64;

@@ -4,7 +4,7 @@ use borrow.Author.Needs.{needs}
 use native.Mathlib.Omega.{arith}
 use Rattle.verdict.specs.declared.Verdict.the-variants as verdict
 use Rattle.colour.specs.Colour.{lentVerdict, colourVerdict, centresSeen}
-use Rattle.colour.proofs.Judged.{lent, accepted, whole, rest, lent-refused, refused-is, accepted-is}
+use Rattle.colour.proofs.Judged.{lent, whole, rest, lent-refused, refused-is, accepted-is}
 use Rattle.colour.proofs.colour_ratios.Statement.{statement}
 use Rattle.colour.proofs.colour_ratios.Tie as tie
 

@@ -1,14 +1,15 @@
 -- `judged_shade` is right because both products and their difference stay far inside an i64.
+use Prim.Native.Nat.{_*_}
 use borrow.Author.Needs.{needs}
 use Rattle.shading.proofs.Shades.{Small}
 use Rattle.shading.proofs.Machine.{c-times-b, a-times-d, offset-fits, numerator-low, denominator-low, shade-is}
 use Rattle.shading.proofs.judged_shade.Statement.{statement}
 use Rattle.shading.proofs.judged_shade.Tie as tie
 
-of-block : (c : tie.Start) → Small 150958080 (c .args .block)
+of-block : (c : tie.Start) → Small (4095 * 192 * 192) (c .args .block)
 of-block c = record { up = c .pre .1; down = c .pre .2 }
 
-of-centre : (c : tie.Start) → Small 2415329280 (c .args .centre)
+of-centre : (c : tie.Start) → Small (4095 * 768 * 768) (c .args .centre)
 of-centre c = record { up = c .pre .3; down = c .pre .4 }
 
 cast-base : tie.Need-cast-base
