@@ -66,7 +66,8 @@ module _ (w h full : ℕ) (mask frame totals counts : List ℕ) where
   unfolding tableAnswer tableTotals tableCounts tableVerdict frameVerdict
   table-blind other a = rw (a .long, same-view a) (refl, refl, refl)
 
-  -- an accepted call leaves the table of its mask and frame (`TableOf`): with any other buffers it is accepted too, and leaves the same
+  -- an accepted call leaves the table of its mask and frame (`TableOf`): with any other buffers of the needed lengths it is accepted
+  -- too, and leaves the same
   pub table-of : tableAnswer w h full mask frame (length totals) (length counts) ≡ Done
       → TableOf w h full mask frame (tableTotals w h full mask frame totals counts) (tableCounts w h full mask frame totals counts)
   table-of done = summed-table w h full mask frame _ _ (made-summed w h full mask frame totals counts done)

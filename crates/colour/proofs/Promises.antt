@@ -37,8 +37,8 @@ module _ (w h full black order : ℕ) (mask frame : List ℕ) where
   unfolding colourAnswer colourPaper
   paper-is = counted-told paperOf (colourVerdict w h full black order mask frame) refl (λ r. refl)
 
-  -- given: 1 to 6, 9, 7 and 10 exactly as document 01 tables them, in that order (`tests` has the table). 9 before 7 is the one exception
-  -- to ascending numbers: a window that is too small gets 9, even with no surveyed site
+  -- given: 1 to 6, 9, 7 and 10 exactly as document 01 tables them, in that order (`tests` has the table). 9 stands before 7:
+  -- a window that is too small gets 9, even with no surveyed site
   pub given : Tabled (colourVerdict w h full black order mask frame) (tests w h full black order mask frame)
   given = table w h full black order mask frame
 

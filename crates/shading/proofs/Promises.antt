@@ -198,8 +198,8 @@ module _ (call : Asked) (totals counts : List ℕ) (ratio colour green k : ℕ) 
   abbrev centre : ℕ
   centre = blocksOf (call .width) (call .height)
 
-  -- own-entries: its numbers are told by four entries of the table, its two planes' of the block and of the centre; so whatever the others
-  -- hold, a block that gets 7 or 10 among them, changes nothing here
+  -- own-entries: its numbers are told by four entries of the table, its two planes' of the block and of the centre. Whatever the others
+  -- hold, those of a block with 7 or 10 among them, changes nothing here (an entry that gives 11 refuses the whole call)
   pub own-entries : (totals′ counts′ : List ℕ)
       → SameAt totals counts totals′ counts′ (entryAt (call .width) (call .height) colour k)
       → SameAt totals counts totals′ counts′ (entryAt (call .width) (call .height) green k)

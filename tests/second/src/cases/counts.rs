@@ -1,4 +1,4 @@
-//! Cases of the count of samples over (document 02, d), for every call that can give 6.
+//! Cases of the count of samples over (document 02, d), for every call that can give 6 but recoding.
 
 use reference::counts::{self, Exposure};
 use reference::shared::{surveyed, Answer};
@@ -62,8 +62,8 @@ pub trait Exposed: Case {
     fn lent(&mut self, turn: usize) -> (&mut [u8], &mut [u16]);
 }
 
-/// What every call that can give 6 has to be tried with. `accepted` is a shape that it accepts, with
-/// sites to spare; `make` makes a case of a shape and a mask, with no sample over.
+/// What every call that can give 6 but recoding has to be tried with. `accepted` is a shape that it
+/// accepts, with sites to spare; `make` makes a case of a shape and a mask, with no sample over.
 pub fn common<C: Exposed>(
     tally: &mut Tally,
     dice: &mut Dice,

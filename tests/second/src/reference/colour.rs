@@ -53,7 +53,7 @@ fn ratios(window: Window, black_level: u64, bayer_order: u64) -> Outcome {
     window.check_scale()?;
     refuse_if(black_level > window.full_scale || bayer_order > 3, 3)?;
     window.check_contents(&[])?;
-    // The one exception to the ascending order: 9 before 7.
+    // Out of ascending order: 9 before 7.
     check_planes(window.width, window.height)?;
     let centre = |colour| {
         let plane = plane_of(colour, bayer_order);
