@@ -64,7 +64,7 @@
  *  - On a refusal every lent buffer stays as it was, to the last byte.
  *  - Any value of a parameter's type may be handed in, sides and lengths included: what is out of range is refused.
  *  - Where a figure is two whole numbers, numerator over denominator, they are not reduced, and in an accepted call
- *    the denominator is above 0. Only of a block and ratio that tip_shading_judge refuses by itself both are 0.
+ *    the denominator is above 0. Where tip_shading_judge refuses one block and ratio, both are 0 there.
  *
  * The caller's fault, and not tested for:
  *  - a NULL or misaligned pointer. An empty buffer needs a pointer too, any that is neither;
@@ -73,9 +73,8 @@
  *    them, that overlaps a buffer or another such pointer. Two buffers that are only read may be one.
  *
  * Refusals. They are tested in ascending number, and the first that applies is given; each call names the ones it
- * tests. Three calls have another order, and say so: tip_colour_ratios, tip_shading_judge and tip_job. The 7 and the 10
- * of tip_shading_judge are not its result: they stand in a buffer, each for one block and ratio, and the call is
- * accepted.
+ * tests. tip_colour_ratios and tip_job have another order, and say so. In tip_shading_judge 7 and 10 come after 11:
+ * they are not its result, but stand in a buffer, each for one block and ratio, and the call is accepted.
  *
  *   no.  given when
  *    1   a side is odd or not in 2..128
@@ -86,7 +85,8 @@
  *        chosen or not, is out of limits, or first and last are outside the list or reversed
  *    4   a lent buffer's length is not exactly the one needed
  *    5   a mask code is above 3; in tip_shading_recode the site's old or new one
- *    6   a surveyed sample is above full scale; over says how many are
+ *    6   a surveyed sample is above full scale; in tip_shading_recode the site's, where its old or its new code is 0.
+ *        over says how many are
  *    7   too few: fewer than 2 surveyed sites (pair), none (dark level, stack variance, a plane's centre in colour
  *        ratios; in colour shading a block or a centre of one of the ratio's two planes), fewer than 2 frames (stack
  *        variance), or fewer than 2 chosen points (photon transfer)
@@ -94,8 +94,8 @@
  *    9   the window is too small for the test: pattern noise needs 12 columns (vertical) or rows (horizontal),
  *        defective rows 18 rows, defective columns 18 columns, colour ratios and shading a width of 64 and a height
  *        of 48
- *   10   the Gr total of a colour ratio is not above 0; in colour shading Gr's, or for B/Gb Gb's, in the block or at
- *        the centre, or R's, or for B/Gb B's, at the centre
+ *   10   T, total - black_level * count, is not above 0: of Gr in colour ratios; in colour shading of Gr, or for B/Gb
+ *        of Gb, in the block or at the centre, or of R, or for B/Gb of B, at the centre
  *   11   a stack's sums cannot come from its frame count; in colour shading a count of the table is above its sites, or
  *        a total above count * full scale
  *   12   a frame is offered to a stack of 100
@@ -113,9 +113,9 @@
  *
  * Every call that can give 6 writes over. Of a 6 it is how many surveyed samples are above full scale, in all frames
  * of the call, wherever the place is: 1 to width * height, and with two frames up to twice that. Of any other refusal,
- * and where the call is accepted, it is 0. A sample at full scale is not counted, nor is one at any code but 0. One hot
- * site gives 1, or with two frames 2; a wrong exposure or a wrong full_scale gives many. tip_shading_recode reads one
- * site, so of its 6 over is 1.
+ * and where the call is accepted, it is 0. A sample at full scale is not counted, nor is one at a site that is not
+ * surveyed. One hot site gives 1, or with two frames 2; a wrong exposure or a wrong full_scale gives many.
+ * tip_shading_recode reads one site, so of its 6 over is 1.
  */
 #ifndef TIPPOVRAIN_H
 #define TIPPOVRAIN_H
@@ -472,8 +472,8 @@ uint64_t tip_defective_columns(size_t width, size_t height, uint64_t full_scale,
  *
  * Refusals, in the order tested: 1; 2; 3 (black_level above full_scale, bayer_order above 3); 4 (mask or frame);
  * 5; 6; 9 (width below 64 or height below 48, even with no surveyed site); 7 (no surveyed site in some plane's
- * centre); 10 (T(Gr) not above 0). 9 before 7 is the one exception to ascending numbers. 5 and 6 look at the whole
- * window, so over counts outside the centres too.
+ * centre); 10 (T(Gr) not above 0). In this call 9 is tested before 7. 5 and 6 look at the whole window, so over counts
+ * outside the centres too.
  *
  *   64 * 48 samples of 100, but 164 at even rows and columns; mask all 0:
  *   tip_colour_ratios(64, 48, 1023, 64, 0, mask, 3072, frame, 3072, &place, &over, &rn, &rd, &bn, &bd, &gn, &gd);
@@ -489,8 +489,8 @@ uint64_t tip_colour_ratios(size_t width, size_t height, uint64_t full_scale, uin
                            int64_t *gb_numerator, uint64_t *gb_denominator);
 
 /*
- * Colour shading: how far each block's colour is from the centre's. Three calls share one table, and none of them
- * answers a number beside the refusal's.
+ * Colour shading: how far each block's colour is from the centre's. Three calls share one table. What they find goes
+ * into lent buffers: no number is answered but the refusal's number, its place, and over where the call can give 6.
  *
  * Blocks. Each plane (width / 2 by height / 2) is divided into blocks 16 wide and 12 high, from its top left. What is
  * left over at the right and lower edge is in no block. There are width / 32 blocks side by side and height / 24 below
@@ -518,13 +518,14 @@ uint64_t tip_colour_ratios(size_t width, size_t height, uint64_t full_scale, uin
  *   place        written: the first offending site for 5 and 6, else 0
  *   over         written: for 6 how many surveyed samples are above full_scale, 1 to width * height; else 0
  *
- * What is made here tip_shading_judge never refuses with 11, given the same sides and full_scale.
+ * A table made here, or recoded since with its own mask and frame, never gets 11 from tip_shading_judge, given the same
+ * sides and full_scale.
  *
  * Refusals, in the order tested: 1; 2; 4 (mask, frame, totals or counts); 5; 6; 9 (width below 64 or height below 48,
  * even with no surveyed site). 5 and 6 look at the whole window, so over counts sites in no block too. The lengths are
  * asked for where 9 follows too: a window of 62 by 48 has two blocks, so it needs 12 totals and 12 counts to get 9.
  *
- *   64 * 48 samples, R Gr / Gb B at 164 264 / 264 114, but 184 at R in the first block; mask all 0:
+ *   64 * 48 samples, R Gr / Gb B at 164 264 / 264 114, but 184 at R in the first block; mask all 0, not const:
  *   uint32_t totals[20], counts[20];
  *   uint64_t place, over;
  *   tip_shading_table(64, 48, 1023, mask, 3072, frame, 3072, totals, 20, counts, 20, &place, &over);
@@ -547,12 +548,15 @@ uint64_t tip_shading_table(size_t width, size_t height, uint64_t full_scale,
  * The table is trusted: whether it fits the mask is not tested, there is no 11, and it is amended modulo 2^32.
  * Recoding back leaves mask and table as they were, whatever the table.
  *
+ * mask, totals and counts are written: none of them may overlap another buffer, and no other call may read them
+ * meanwhile.
+ *
  *   full_scale   grey levels, 1 to 4095
  *   site         0 to width * height - 1
  *   code         the new code, 0 to 3; it may be the old one
  *   mask         width * height codes; written at site where the call is accepted, and nowhere else
- *   frame        width * height samples, only read; where neither the old nor the new code is 0, the site's may be any
- *                number
+ *   frame        width * height samples, grey levels, only read, and only at site; any number at any other site, and at
+ *                site where neither the old nor the new code is 0
  *   totals       4 * (blocks + 1) totals, grey levels; written, at the site's block and centre, where the call is
  *                accepted
  *   counts       4 * (blocks + 1) counts of sites, likewise
@@ -561,7 +565,7 @@ uint64_t tip_shading_table(size_t width, size_t height, uint64_t full_scale,
  *
  * Refusals, in the order tested: 1; 2; 3 (site outside the window); 4 (mask, frame, totals or counts); 5 (the old or
  * the new code is above 3); 6 (the sample is above full_scale, and the old or the new code is 0); 9 (width below 64 or
- * height below 48).
+ * height below 48). The lengths are asked for where 9 follows too, as in tip_shading_table.
  *
  *   With the table above, site 0, which is R in the first block and at the centre:
  *   tip_shading_recode(64, 48, 1023, 0, 1, mask, 3072, frame, 3072, totals, 20, counts, 20, &place, &over);
@@ -577,10 +581,10 @@ uint64_t tip_shading_recode(size_t width, size_t height, uint64_t full_scale, si
 
 /*
  * Judges each block's R/Gr, and B/Gb, by the centre's. T is total - black_level * count. In the block R/Gr is a over b,
- * a = T(R) * count(Gr) and b = T(Gr) * count(R); at the centre it is c over d, likewise. As a part of the centre's, the
- * block's ratio is |a * d - c * b| over c * b off, a pure number, unreduced, and it fails where that is above limit
- * sixteenths: 16 * numerator > limit * denominator. B/Gb is the same with B for R and Gb for Gr. No mask is taken, and
- * no frame.
+ * a = T(R) * count(Gr) and b = T(Gr) * count(R); at the centre it is c over d, likewise. How far the block's ratio is
+ * off, as a part of the centre's, is |a * d - c * b| over c * b: a pure number, unreduced. The block fails where this
+ * is above limit sixteenths: 16 * numerator > limit * denominator. B/Gb is the same with B for R and Gb for Gr. No mask
+ * is taken, and no frame.
  *
  *   full_scale     grey levels, 1 to 4095
  *   black_level    grey levels, 0 to full_scale
@@ -589,7 +593,7 @@ uint64_t tip_shading_recode(size_t width, size_t height, uint64_t full_scale, si
  *   totals         4 * (blocks + 1) totals, grey levels, only read, each at most count * full_scale
  *   counts         4 * (blocks + 1) counts of sites, only read, each at most 192 for a block and 768 for a centre
  *   numerators     2 * blocks numbers, each written: |a * d - c * b|, below 2^60; 0 where refused
- *   denominators   2 * blocks numbers, each written: c * b, above 0; 0 where refused
+ *   denominators   2 * blocks numbers, each written: c * b, above 0 and below 2^60; 0 where refused
  *   refusals       2 * blocks bytes, each written: 7 or 10 where this block and ratio is refused, else 0
  *   fails          2 * blocks bytes, each written: 1 where the block fails in this ratio, else 0
  *   place          written: 0
@@ -602,7 +606,8 @@ uint64_t tip_shading_recode(size_t width, size_t height, uint64_t full_scale, si
  * refusals, for each block and ratio by itself: 7 (one of the ratio's two planes has count 0 in the block or at the
  * centre); 10 (T of Gr, or for B/Gb of Gb, in the block or at the centre, or T of R, or for B/Gb of B, at the centre,
  * is not above 0). T of R or B in the block may be 0 or below. 11 stands before 7 and 10, and refuses the whole call. A
- * 7 or 10 does not: the result is 0, and every other block and ratio is judged all the same.
+ * 7 or 10 does not: the result is 0, and every other block and ratio is judged all the same. The lengths are asked for
+ * where 9 follows too, as in tip_shading_table (62 by 48: 12 and 12, and 4 of each written buffer).
  *
  *   With the table above:
  *   uint64_t numerators[8], denominators[8];

@@ -1,4 +1,4 @@
-//! Colour shading: a window that loses red and gains blue towards its corners, its blocks judged by its centre, and some
+//! Colour shading: a window that turns from red to blue towards its corners, its blocks judged by its centre, and some
 //! sites recoded.
 //! The camera is simulated in whole numbers, so the text is the same on every machine: `shading.txt`.
 
@@ -44,6 +44,10 @@ fn shading() -> Result<(), Refusal> {
     }
 
     let mut table = ShadingTable::new(WINDOW, &mask, &frame)?;
+    println!(
+        "how far each block's ratio is off, as a part of the centre's; * above {LIMIT}/16; (7) refused"
+    );
+    println!();
     println!("as it came:");
     print(&table.judge(BLACK_LEVEL, BayerOrder::R, LIMIT)?);
 

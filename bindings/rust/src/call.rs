@@ -138,11 +138,11 @@ fn of_window(call: Call, number: u64) -> &'static str {
         }
         (4, ShadingTable | ShadingRecode) => {
             "a buffer has not exactly the length needed: width * height codes and samples, 4 * (blocks + 1) totals \
-             and counts"
+             and counts, blocks being (width / 32) * (height / 24), each divided down"
         }
         (4, ShadingJudge) => {
             "a buffer has not exactly the length needed: 4 * (blocks + 1) totals and counts, 2 * blocks of each number \
-             that is written"
+             that is written, blocks being (width / 32) * (height / 24), each divided down"
         }
         (4, _) => "a buffer has not exactly width * height elements",
         (5, ShadingRecode) => {

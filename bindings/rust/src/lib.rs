@@ -34,7 +34,7 @@
 //! - **Full scale**: 1 to 4095 grey levels.
 //! - **Mask**: a code for each site: [`SURVEYED`], [`GAP`], [`DEFECT`] or [`FILLED`]. Only samples and sums at surveyed
 //!   sites are read for a figure, a verdict or a refusal. To [`shading_recode`] a site is surveyed where its old or its
-//!   new code is.
+//!   new code is [`SURVEYED`].
 //! - **Planes**: a window has four, by the parity of row and column: (0,0), (0,1), (1,0), (1,1), the row's first.
 //! - **Block**: 16 columns and 12 rows of a plane; a **centre** is the middle 32 columns and 24 rows of one. A
 //!   [`ShadingTable`] has for each a total of samples and a count of sites.

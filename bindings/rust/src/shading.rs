@@ -14,8 +14,8 @@ pub enum ShadingRatio {
 /// One block's verdict in one ratio.
 #[derive(Debug, Clone, Copy, PartialEq, Eq, Hash)]
 pub struct BlockShading {
-    /// How far the block's ratio is from the centre's, as a part of the centre's: a pure number, the numerator below
-    /// 2^60.
+    /// How far the block's ratio is off the centre's, as a part of the centre's: a pure number, numerator and
+    /// denominator below 2^60.
     pub off: Fraction,
     /// Whether that is above the limit.
     pub fails: bool,
@@ -100,7 +100,9 @@ impl Shading {
 /// }
 /// let shading = table.judge(64, BayerOrder::R, 2)?;
 /// assert_eq!(shading.block(ShadingRatio::RGr, 0, 0).unwrap_err().number, 7);
+/// assert!(shading.block(ShadingRatio::BGb, 0, 0).is_ok());
 /// assert!(!shading.block(ShadingRatio::RGr, 0, 1)?.fails);
+/// // and the table is the one made afresh under the new mask
 /// assert_eq!(table, ShadingTable::new(window, &mask, &frame)?);
 /// # Ok(())
 /// # }
@@ -127,7 +129,8 @@ impl ShadingTable {
 
     /// A table of lists from elsewhere, as [`totals`](ShadingTable::totals) and [`counts`](ShadingTable::counts) gave
     /// them once. Nothing is tested here: [`recode`](ShadingTable::recode) and [`judge`](ShadingTable::judge) refuse
-    /// lists of other lengths, and a window out of range; `judge` also refuses, with 11, what no samples can have left.
+    /// lists of other lengths, and a window out of range. `judge` also refuses, with 11, a count above its sites or a
+    /// total above count * full scale; it does not tell every table that no frame can give.
     pub fn of_lists(window: Window, totals: Vec<u32>, counts: Vec<u32>) -> ShadingTable {
         ShadingTable {
             window,
@@ -298,7 +301,8 @@ pub fn shading_table(
 /// - `site`: 0 to `width * height - 1`
 /// - `code`: the new code, 0 to 3; it may be the old one
 /// - `mask`: `width * height` codes, written at `site` alone
-/// - `frame`: `width * height` samples, grey levels
+/// - `frame`: `width * height` samples, grey levels, read only at `site`; any number at any other site, and at `site`
+///   where neither the old nor the new code is 0
 /// - `totals`, `counts`: `4 * (blocks + 1)` each, as [`shading_table`] left them, written at the site's block and
 ///   centre
 ///
@@ -345,9 +349,9 @@ pub fn shading_recode(
 
 /// Judges each block's R/Gr, and B/Gb, by the centre's, into lists that the caller lends; [`ShadingTable::judge`] gives
 /// them as [`Shading`]. T is `total - black_level * count`. In the block R/Gr is a over b, `a = T(R) * count(Gr)` and
-/// `b = T(Gr) * count(R)`; at the centre it is c over d, likewise. As a part of the centre's, the block's ratio is
-/// `|a * d - c * b|` over `c * b` off, and it fails where that is above `limit` sixteenths. B/Gb is the same with B for
-/// R and Gb for Gr.
+/// `b = T(Gr) * count(R)`; at the centre it is c over d, likewise. How far the block's ratio is off, as a part of the
+/// centre's, is `|a * d - c * b|` over `c * b`: a pure number, unreduced. The block fails where this is above `limit`
+/// sixteenths: `16 * numerator > limit * denominator`. B/Gb is the same with B for R and Gb for Gr.
 ///
 /// - `black_level`: 0 to full scale, grey levels
 /// - `limit`: 1 to 16, sixteenths

@@ -1199,8 +1199,17 @@ fn words_of_the_call() {
     assert!(needed(Call::UnpackRaw10).contains("width * height * 5 / 4 bytes"));
     assert!(needed(Call::DefectiveRows).ends_with("2 * height marks"));
     assert!(needed(Call::DefectiveColumns).ends_with("2 * width marks"));
-    assert!(needed(Call::ShadingRecode).ends_with("4 * (blocks + 1) totals and counts"));
-    assert!(needed(Call::ShadingJudge).ends_with("2 * blocks of each number that is written"));
+    let blocks = ", blocks being (width / 32) * (height / 24), each divided down";
+    for (call, lengths) in [
+        (Call::ShadingTable, "4 * (blocks + 1) totals and counts"),
+        (Call::ShadingRecode, "4 * (blocks + 1) totals and counts"),
+        (
+            Call::ShadingJudge,
+            "2 * blocks of each number that is written",
+        ),
+    ] {
+        assert!(needed(call).ends_with(&format!("{lengths}{blocks}")));
+    }
 }
 
 /// A place is said as what it counts, and not said where it is always 0.
