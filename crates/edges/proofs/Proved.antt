@@ -103,6 +103,11 @@ shadings = record {
   count-769 = refl;
   total-full = refl;
   total-over = refl;
+  total-of-191 = refl;
+  total-of-last = refl;
+  dark-at-15 = (refl, refl, refl, refl, refl);
+  dark-at-16 = (refl, refl, refl, refl, refl);
+  row-over = refl;
   too-small = refl;
   length-first = (refl, refl);
 }

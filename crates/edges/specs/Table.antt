@@ -229,6 +229,11 @@ abbrev Black : ℕ → List ℕ → Type 0
 Black limit fails = Leaves limit (entries (level 164) (unlike (192 * 64) (192 * 264)) (level 264) (level 114)) whole
     (eight 0 108716359680000 0) (eight 0 434865438720000 217432719360000) (eight 10 0 0) fails
 
+-- R at 164, but at 64 in its first block: T is 0 there, and 576 × 100 at the centre
+abbrev Dark : ℕ → List ℕ → Type 0
+Dark limit fails = Leaves limit (entries (unlike (192 * 64) (192 * 164)) (level 264) (level 264) (level 114)) whole
+    (eight 326149079040000 108716359680000 0) (eight 326149079040000 326149079040000 217432719360000) (eight 0 0 0) fails
+
 pub record Shadings : Type 0 where
   -- every numerator is 0, and nothing fails at the least limit; the counts are at their limits, 192 and 768, and get no 11
   pub even : Leaves 1 levels whole (eight 0 0 0) (eight 434865438720000 434865438720000 217432719360000) (eight 0 0 0) (eight 0 0 0)
@@ -246,9 +251,16 @@ pub record Shadings : Type 0 where
   -- 11: a count of 193 in a block, and of 769 at a centre
   pub count-193 : Answered 1 levels (entries (193 ∷ 192 ∷ 192 ∷ 192 ∷ 768 ∷ []) (alike 192) (alike 192) (alike 192)) (shading.Refused (refusal 11 0))
   pub count-769 : Answered 1 levels (entries (192 ∷ 192 ∷ 192 ∷ 192 ∷ 769 ∷ []) (alike 192) (alike 192) (alike 192)) (shading.Refused (refusal 11 0))
-  -- a total of count × full scale in a block may be, one more gets 11
+  -- a total of count × full scale in a block may be, one more gets 11, also where fewer sites are counted, and in the last entry of the table
   pub total-full : Answered 1 (entries (unlike (192 * 1023) (192 * 164)) (level 264) (level 264) (level 114)) whole shading.Done
   pub total-over : Answered 1 (entries (unlike (192 * 1023 + 1) (192 * 164)) (level 264) (level 264) (level 114)) whole (shading.Refused (refusal 11 0))
+  pub total-of-191 : Answered 1 (entries (unlike (191 * 1023 + 1) (192 * 164)) (level 264) (level 264) (level 114)) (entries (unlike 191 192) (alike 192) (alike 192) (alike 192)) (shading.Refused (refusal 11 0))
+  pub total-of-last : Answered 1 (entries (level 164) (level 264) (level 264) (192 * 114 ∷ 192 * 114 ∷ 192 * 114 ∷ 192 * 114 ∷ (768 * 1023 + 1) ∷ [])) whole (shading.Refused (refusal 11 0))
+  -- R of a block at the black level is judged: it is all of the centre's ratio off, and fails at any limit below 16 sixteenths
+  pub dark-at-15 : Dark 15 (eight 1 0 0)
+  pub dark-at-16 : Dark 16 (eight 0 0 0)
+  -- 64 × 50 has a row left over in each plane, and the blocks of 64 × 48
+  pub row-over : judgeAnswer (asked 64 50 1023 64 0 1) (lengths 8 8 8 8) levels whole ≡ shading.Done
   -- 62 × 48 has two blocks a plane, so a table of 12 and buffers of 4: 9; a table or buffers of another length get 4 first
   pub too-small : judgeAnswer (asked 62 48 1023 64 0 1) (lengths 4 4 4 4) (all 12 0) (all 12 0) ≡ shading.Refused (refusal 9 0)
   pub length-first : (judgeAnswer (asked 62 48 1023 64 0 1) (lengths 4 4 4 4) (all 20 0) (all 20 0) ≡ shading.Refused (refusal 4 0))
