@@ -15,7 +15,7 @@ use Rattle.refusals.proofs.Judges.{Framed}
 use Rattle.colour.specs.Centre.{tooSmall}
 use Rattle.blocks.specs.Areas.{entriesOf}
 use Rattle.blocks.specs.Table.{entrySums, tableVerdict, tableAnswer, tableTotals, tableCounts}
-use Rattle.blocks.specs.Recode.{recoded, amended, recodeAnswer, recodeMask, recodeTotals, recodeCounts}
+use Rattle.blocks.specs.Recode.{recoded, amended, recodeAnswer, recodeMask, recodeTotals, recodeCounts, amendedTotals, amendedCounts}
 use Rattle.blocks.specs.declared.Shaded.the-variants.{Done}
 use Rattle.blocks.proofs.Judged.{tabling, tabling-clear, table-clear, table-done, Recoding, recoding, recode-clear}
 use Rattle.blocks.proofs.Amends.{recoded-long, recoded-all, amended-afresh}
@@ -32,8 +32,8 @@ pub record Makes (w h full site code : ℕ) (frame mask totals counts mask′ to
 pub record Made (w h full site code : ℕ) (frame mask totals counts mask′ totals′ counts′ : List ℕ) : Type 0 where
   pub of : Recoding w h full site code mask frame (length totals) (length counts)
   pub mask-is : mask′ ≡ recoded site code mask
-  pub totals-is : totals′ ≡ amended w h site (seenAt (held mask site) (held frame site)) (seenAt code (held frame site)) totals
-  pub counts-is : counts′ ≡ amended w h site (seenAt (held mask site) 1) (seenAt code 1) counts
+  pub totals-is : totals′ ≡ amendedTotals w h site code mask frame totals
+  pub counts-is : counts′ ≡ amendedCounts w h site code mask counts
 
 pub made : {w h full site code : ℕ} {frame mask totals counts mask′ totals′ counts′ : List ℕ}
     → Makes w h full site code frame mask totals counts mask′ totals′ counts′ → Made w h full site code frame mask totals counts mask′ totals′ counts′

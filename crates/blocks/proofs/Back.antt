@@ -10,7 +10,7 @@ use Rattle.verdict.specs.declared.Verdict.the-variants as verdict
 use Rattle.window.specs.View.{seenAt}
 use Rattle.window.proofs.Sides.{scale}
 use Rattle.window.proofs.Views.{seen-le}
-use Rattle.blocks.specs.Recode.{recoded, amended, recodeVerdict}
+use Rattle.blocks.specs.Recode.{recoded, amended, recodeVerdict, amendedTotals, amendedCounts}
 use Rattle.blocks.proofs.Judged.{Recoding, recoding-clear, recode-done}
 use Rattle.blocks.proofs.Amends.{Words, amended-long, amended-back, recoded-long, recoded-here, recoded-back}
 use Rattle.blocks.proofs.Afresh.{Makes, made}
@@ -22,10 +22,10 @@ module _ (w h full site code : ℕ) (mask frame totals counts : List ℕ) (a : R
   M = recoded site code mask
 
   abbrev T : List ℕ
-  T = amended w h site (seenAt (held mask site) (held frame site)) (seenAt code (held frame site)) totals
+  T = amendedTotals w h site code mask frame totals
 
   abbrev C : List ℕ
-  C = amended w h site (seenAt (held mask site) 1) (seenAt code 1) counts
+  C = amendedCounts w h site code mask counts
 
   here : held M site ≡ code
   here = recoded-here site code mask (omega (arith, a .inside, a .masked))

@@ -4,11 +4,10 @@ use mathlib.Core.List.{List}
 use mathlib.Core.Path.{_≡_, refl, ap, _∙_}
 use native.Mathlib.Omega.{arith}
 use lib.ListN.{length}
-use Rattle.laws.specs.Table.{held}
 use Rattle.verdict.specs.declared.Refusal.{Refusal}
 use Rattle.verdict.specs.declared.Verdict.the-variants as verdict
 use Rattle.window.specs.Shape.{sitesOf}
-use Rattle.window.specs.View.{seen, one, seenAt}
+use Rattle.window.specs.View.{seen, one}
 use Rattle.window.proofs.Sides.{Sides}
 use Rattle.plane.specs.Plane.{boxSums}
 use Rattle.plane.specs.declared.PlaneBox.{PlaneBox}
@@ -16,7 +15,7 @@ use Rattle.plane.specs.declared.Sums.{Sums}
 use Rattle.plane.proofs.Planes.{sums-accepted}
 use Rattle.blocks.specs.Areas.{blocksOf, areasOf, areaOf}
 use Rattle.blocks.specs.Table.{entrySum, entrySums, tableVerdict, tableAnswer, paperOf, tablePaper, tableTotals, tableCounts}
-use Rattle.blocks.specs.Recode.{recodeVerdict, recodeAnswer, recodePaper, recoded, amended, recodeMask, recodeTotals, recodeCounts}
+use Rattle.blocks.specs.Recode.{recodeVerdict, recodeAnswer, recodePaper, recoded, recodeMask, recodeTotals, recodeCounts, amendedTotals, amendedCounts}
 use Rattle.blocks.proofs.Areas.{entry-plane, entry-area}
 use Rattle.blocks.specs.declared.Shaded.the-variants.{Done, Refused}
 
@@ -54,7 +53,7 @@ module _ (w h full : ℕ) (mask frame totals counts : List ℕ) where
     pub recode-accepted : recodeVerdict w h full site code mask frame (length totals) (length counts) ≡ verdict.Clear
         → (Done ≡ recodeAnswer w h full site code mask frame (length totals) (length counts)) × ((paperOf Done ≡ recodePaper w h full site code mask frame (length totals) (length counts))
         × ((recoded site code mask ≡ recodeMask w h full site code mask frame (length totals) (length counts))
-        × ((amended w h site (seenAt (held mask site) (held frame site)) (seenAt code (held frame site)) totals ≡ recodeTotals w h full site code mask frame totals counts)
-        × (amended w h site (seenAt (held mask site) 1) (seenAt code 1) counts ≡ recodeCounts w h full site code mask frame totals counts))))
+        × ((amendedTotals w h site code mask frame totals ≡ recodeTotals w h full site code mask frame totals counts)
+        × (amendedCounts w h site code mask counts ≡ recodeCounts w h full site code mask frame totals counts))))
     unfolding recodeAnswer recodePaper recodeMask recodeTotals recodeCounts
     recode-accepted e = rw e (refl, (refl, (refl, (refl, refl))))

@@ -66,21 +66,29 @@ unfoldable pub amended : ℕ → ℕ → ℕ → ℕ → ℕ → List ℕ → Li
 amended w h site old new entries =
     tabulate (length entries) (λ (e : ℕ). cond (liesIn w h site e) (amend old new (held entries e)) (held entries e))
 
+-- totals amended by the sample, and counts by 1, each as it is seen under the new code in place of what was seen under the old one
+abbrev pub amendedTotals : ℕ → ℕ → ℕ → ℕ → List ℕ → List ℕ → List ℕ → List ℕ
+amendedTotals w h site code mask frame totals =
+    amended w h site (seenAt (held mask site) (held frame site)) (seenAt code (held frame site)) totals
+
+abbrev pub amendedCounts : ℕ → ℕ → ℕ → ℕ → List ℕ → List ℕ → List ℕ
+amendedCounts w h site code mask counts = amended w h site (seenAt (held mask site) 1) (seenAt code 1) counts
+
 -- the mask afterwards: the new code at the site; or all as it was
 unfoldable pub recodeMask : ℕ → ℕ → ℕ → ℕ → ℕ → List ℕ → List ℕ → ℕ → ℕ → List ℕ
 recodeMask w h full site code mask frame totals counts =
     ifClear (recodeVerdict w h full site code mask frame totals counts) (recoded site code mask) mask
 
--- the totals afterwards: the sample as it is seen under the new code in place of what was seen under the old one; or all as they were
+-- the totals afterwards, amended; or all as they were
 unfoldable pub recodeTotals : ℕ → ℕ → ℕ → ℕ → ℕ → List ℕ → List ℕ → List ℕ → List ℕ → List ℕ
 recodeTotals w h full site code mask frame totals counts =
     ifClear (recodeVerdict w h full site code mask frame (length totals) (length counts))
-    (amended w h site (seenAt (held mask site) (held frame site)) (seenAt code (held frame site)) totals)
+    (amendedTotals w h site code mask frame totals)
     totals
 
--- the counts afterwards: 1 as it is seen, likewise
+-- the counts afterwards, likewise
 unfoldable pub recodeCounts : ℕ → ℕ → ℕ → ℕ → ℕ → List ℕ → List ℕ → List ℕ → List ℕ → List ℕ
 recodeCounts w h full site code mask frame totals counts =
     ifClear (recodeVerdict w h full site code mask frame (length totals) (length counts))
-    (amended w h site (seenAt (held mask site) 1) (seenAt code 1) counts)
+    (amendedCounts w h site code mask counts)
     counts

@@ -4,11 +4,12 @@ ghost use mathlib.Core.Path.{_≡_};
 ghost use Prim.Native.Nat.{_+_, _*_, _/_, _≤_, _<_};
 ghost use lib.ListN.{length, set};
 ghost use Rattle.laws.specs.Table.{held};
+ghost use Rattle.verdict.specs.Verdict.{refusalOver, refuseWith};
 ghost use Rattle.window.specs.Shape.{badSides, sitesOf};
-ghost use Rattle.window.specs.View.{seen, one, seenAt};
+ghost use Rattle.window.specs.View.{seen, one};
 ghost use Rattle.blocks.specs.Areas.{blocksOf, areaOf, areaSites, blockOf, entriesOf, inBox, tableLengths};
 ghost use Rattle.blocks.specs.Table.{entrySums, tableVerdict, tableAnswer, paperOf, tablePaper, tableTotals, tableCounts};
-ghost use Rattle.blocks.specs.Recode.{badCodes, overEither, siteVerdict, recodeVerdict, recoded, amend, amended, recodeAnswer, recodePaper, recodeMask, recodeTotals, recodeCounts};
+ghost use Rattle.blocks.specs.Recode.{badCodes, overEither, siteVerdict, recodeVerdict, recoded, amend, amendedTotals, amendedCounts, recodeAnswer, recodePaper, recodeMask, recodeTotals, recodeCounts};
 ghost use Rattle.blocks.specs.Walk.{blockEntry, centreEntry, amendedAt};
 use plane::PlaneBox;
 use verdict::Refusal;
@@ -216,21 +217,28 @@ fn over_either(full_scale: u64, old: u8, new: u64, sample: u16) -> bool
     ((old == 0) | (new == 0)) & (full_scale < sample as u64)
 }
 
+// Refusal 6 of the site, which counts its one sample.
+fn refuse_over(site: usize, applies: bool) -> Verdict
+    ensures { λ r. ⌜ r ≡ refuseWith (refusalOver 6 site 1) applies ⌝ }
+{
+    if applies {
+        Verdict::Refused(Refusal {
+            number: 6,
+            place: site,
+            over: 1,
+        })
+    } else {
+        Verdict::Clear
+    }
+}
+
 // Refusals 5 and 6 of the site: it is the place of both.
 fn judge_site(full_scale: u64, site: usize, old: u8, new: u64, sample: u16) -> Verdict
     ensures { λ r. ⌜ r ≡ siteVerdict «full_scale» site old new sample ⌝ }
 {
-    if bad_codes(old, new) {
-        return verdict::refuse_if(5, site, true);
-    }
-    if over_either(full_scale, old, new, sample) {
-        return Verdict::Refused(Refusal {
-            number: 6,
-            place: site,
-            over: 1,
-        });
-    }
-    Verdict::Clear
+    let coded = verdict::refuse_if(5, site, bad_codes(old, new));
+    let ranged = refuse_over(site, over_either(full_scale, old, new, sample));
+    verdict::then(coded, ranged)
 }
 
 // Refusals 1 to 6 and 9, for a table of so many totals and counts.
@@ -337,8 +345,8 @@ fn recode(
 )
     requires { ⌜ (badSides width height ≡ false) × (site < sitesOf width height) × (length (now mask) ≡ sitesOf width height) × (length (now frame) ≡ sitesOf width height) × (length (now totals) ≡ entriesOf width height) × (length (now counts) ≡ entriesOf width height) ⌝ }
     ensures { λ r. ⌜ now (mask .exit) ≡ recoded site code (now (mask .entry)) ⌝ }
-    ensures { λ r. ⌜ now (totals .exit) ≡ amended width height site (seenAt (held (now (mask .entry)) site) (held (now (frame .entry)) site)) (seenAt code (held (now (frame .entry)) site)) (now (totals .entry)) ⌝ }
-    ensures { λ r. ⌜ now (counts .exit) ≡ amended width height site (seenAt (held (now (mask .entry)) site) 1) (seenAt code 1) (now (counts .entry)) ⌝ }
+    ensures { λ r. ⌜ now (totals .exit) ≡ amendedTotals width height site code (now (mask .entry)) (now (frame .entry)) (now (totals .entry)) ⌝ }
+    ensures { λ r. ⌜ now (counts .exit) ≡ amendedCounts width height site code (now (mask .entry)) (now (counts .entry)) ⌝ }
 {
     let old = mask[site];
     let sample = frame[site];

@@ -1,15 +1,13 @@
 -- What the walks of a table see: which area comes next, 11 of one entry more, the entries of an area, and both halves of a buffer.
-use Prim.Native.Nat.{ℕ, _+_, _-_, _*_, _/_, _%_, _≤_, _<_}
-use mathlib.Core.Bool.{Bool, false, cond, _||_}
+use Prim.Native.Nat.{ℕ, _+_, _-_, _*_, _%_, _≤_, _<_}
+use mathlib.Core.Bool.{Bool, false, _||_}
 use mathlib.Core.List.{List}
 use mathlib.Core.Logic.{⊎-elim}
 use mathlib.Core.Path.{_≡_, refl, sym, ap, _∙_}
-use native.Mathlib.Nat.{le-trans, add-mul, zero-mul, one-mul, mod-lt, div-add-mod'}
+use native.Mathlib.Nat.{le-trans, zero-mul, one-mul, mod-eq-of-lt}
 use native.Mathlib.Omega.{arith}
 use lib.Arith.{digits-mod}
-use lib.Dec.{ltb}
 use lib.ListN.{length}
-use borrow.Author.Tests.{lt-ltb, le-ltb}
 use Rattle.laws.specs.First.{someTo}
 use Rattle.laws.specs.Table.{held}
 use Rattle.laws.proofs.Cases.{lt-or-ge}
@@ -27,22 +25,15 @@ use Rattle.shading.specs.declared.Planes.{Planes}
 use Rattle.shading.specs.declared.Shade.{Shade}
 use Rattle.shading.proofs.Entries.{InFour, shade-at, entry-possible, tint-possible}
 
--- the area of the next entry
-pub next-area : (e areas : ℕ) → 0 < areas → cond (ltb (e % areas + 1) areas) (e % areas + 1) 0 ≡ (e + 1) % areas
-next-area e areas some =
-    ⊎-elim
-    (λ l. rw (lt-ltb (e % areas + 1) areas l)
-    (sym (digits-mod (e / areas) l) ∙ ap (λ (x : ℕ). x % areas) (sum-assoc (e / areas * areas) (e % areas) ∙ ap (λ (x : ℕ). x + 1) (div-add-mod' e areas))))
-    (λ g. let full : e % areas + 1 ≡ areas = omega (arith, mod-lt e some) in
-    rw (le-ltb (e % areas + 1) areas g)
-    (sym (digits-mod (e / areas + 1) {r = 0} some) ∙ ap (λ (x : ℕ). x % areas) (next-turn (e / areas) (e % areas) areas full ∙ ap (λ (x : ℕ). x + 1) (div-add-mod' e areas))))
-    (lt-or-ge (e % areas + 1) areas)
-  where
-    sum-assoc : (x y : ℕ) → x + (y + 1) ≡ x + y + 1
-    sum-assoc x y = omega arith
+-- the area of the next entry: one more, or the first again
+pub next-area : (k areas : ℕ) → k + 1 < areas → k + 1 ≡ (k + 1) % areas
+next-area k areas l = sym (mod-eq-of-lt l)
 
-    next-turn : (q r n : ℕ) → r + 1 ≡ n → (q + 1) * n + 0 ≡ q * n + r + 1
-    next-turn q r n l = omega (arith, add-mul q 1 n, one-mul n)
+pub first-area : (k areas : ℕ) → k < areas → areas ≤ k + 1 → 0 ≡ (k + 1) % areas
+first-area k areas l g =
+    let all : 1 * areas + 0 ≡ k + 1 = omega (arith, one-mul areas) in
+    let some : 0 < areas = omega arith in
+    sym (ap (λ (x : ℕ). x % areas) (sym all) ∙ digits-mod 1 some)
 
 -- what a walk of one ratio's blocks has stored at its end
 pub half-stored : {part : Shade → ℕ} {given : Asked} {totals counts d l : List ℕ} {ratio blocks first k : ℕ}

@@ -1,8 +1,7 @@
 // Colour shading: each block's ratios beside the centre's, by a block table: document 02, j.
 ghost use mathlib.Core.Bool.{cond};
 ghost use mathlib.Core.Path.{_≡_};
-ghost use Prim.Native.Nat.{_+_, _*_, _^_, _≤_, _<_};
-ghost use lib.Dec.{ltb};
+ghost use Prim.Native.Nat.{_+_, _*_, _%_, _^_, _≤_, _<_};
 ghost use lib.IntN.{natAbs};
 ghost use lib.ListN.{length};
 ghost use Rattle.laws.specs.Table.{held};
@@ -119,7 +118,7 @@ fn impossible(full: u64, sites: u32, total: u32, count: u32) -> bool
 // The area of the entry after one of area k: a division would take longer.
 fn next_area(k: usize, areas: usize) -> usize
     requires { ⌜ (k < areas) × (areas ≤ 21) ⌝ }
-    ensures { λ r. ⌜ r ≡ cond (ltb (k + 1) areas) (k + 1) 0 ⌝ }
+    ensures { λ r. ⌜ r ≡ (k + 1) % areas ⌝ }
 {
     if k + 1 < areas { k + 1 } else { 0 }
 }

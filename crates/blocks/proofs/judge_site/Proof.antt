@@ -1,7 +1,9 @@
 -- `judge_site` is right because it asks 5 before 6.
-use mathlib.Core.Path.{sym, _∙_}
+use mathlib.Core.Bool.{Bool}
+use mathlib.Core.Path.{ap, _∙_}
 use borrow.Author.Needs.{needs}
-use Rattle.verdict.specs.Verdict.{_⨟_, refuseWith}
+use Rattle.verdict.specs.Verdict.{refusalOver, refuseWith, refuseIf}
+use Rattle.verdict.proofs.Verdicts.{then-of}
 use Rattle.blocks.proofs.judge_site.Statement.{statement}
 use Rattle.blocks.proofs.judge_site.Tie as tie
 
@@ -11,22 +13,22 @@ bad-codes-requires c κs = search needs
 refuse-if-requires : tie.Need-refuse-if-requires
 refuse-if-requires c κs = search needs
 
-returns : tie.Need-returns
-unfolding _⨟_ refuseWith
-returns c = let bad = sym (c .before .before .bad-codes .ensures) ∙ c .before .if1 .taken in c .refuse-if .ensures ∙ rw bad
-
 over-either-requires : tie.Need-over-either-requires
 over-either-requires c κs = search needs
 
-returns-2 : tie.Need-returns-2
-unfolding _⨟_ refuseWith
-returns-2 c = let good = sym (c .before .before .before .bad-codes .ensures) ∙ c .before .before .if1 .left in
-    rw (good, sym (c .before .over-either .ensures) ∙ c .if2 .taken)
+refuse-over-requires : tie.Need-refuse-over-requires
+refuse-over-requires c κs = search needs
 
-returns-3 : tie.Need-returns-3
-unfolding _⨟_ refuseWith
-returns-3 c = let good = sym (c .before .before .before .bad-codes .ensures) ∙ c .before .before .if1 .left in
-    rw (good, sym (c .before .over-either .ensures) ∙ c .if2 .left)
+then-requires : tie.Need-then-requires
+then-requires c κs = search needs
+
+returns : tie.Need-returns
+returns c = let ranged = c .before in
+    let coded = ranged .before .before in
+    let site = coded .before .before .args .site in
+    then-of (c .then .ensures)
+    (coded .refuse-if .ensures ∙ ap (λ (t : Bool). refuseIf 5 site t) (coded .before .bad-codes .ensures))
+    (ranged .refuse-over .ensures ∙ ap (λ (t : Bool). refuseWith (refusalOver 6 site 1) t) (ranged .before .over-either .ensures))
 
 pub judge-site-spec : {M : Type 1} → statement M
 judge-site-spec =
@@ -34,7 +36,7 @@ judge-site-spec =
     (tie.spec
     bad-codes-requires
     refuse-if-requires
-    returns
     over-either-requires
-    returns-2
-    returns-3)
+    refuse-over-requires
+    then-requires
+    returns)

@@ -1,16 +1,14 @@
 -- `some_impossible` is right because each turn asks the test of one entry more.
 use Prim.Native.Nat.{ℕ, _+_, _-_, _%_, _≤_, _<_}
-use mathlib.Core.Bool.{cond}
 use mathlib.Core.Path.{_≡_, refl, sym, ap, ap₂, _∙_}
-use native.Mathlib.Nat.{mod-eq-of-lt, mod-lt}
+use native.Mathlib.Nat.{mod-eq-of-lt, mod-lt, mod-add-mod}
 use native.Mathlib.Omega.{arith}
-use lib.Dec.{ltb}
 use lib.ListN.{length}
 use borrow.Author.Needs.{needs}
 use Rattle.laws.specs.First.{someTo}
 use Rattle.blocks.specs.Areas.{areasOf}
 use Rattle.shading.specs.Judge.{impossibleAt}
-use Rattle.shading.proofs.Walks.{next-area, asked-none, asked-more, asked-all}
+use Rattle.shading.proofs.Walks.{asked-none, asked-more, asked-all}
 use Rattle.shading.proofs.some_impossible.Statement.{statement}
 use Rattle.shading.proofs.some_impossible.Tie as tie
 
@@ -75,9 +73,7 @@ loop-again c = let called = c .before .before .before .before in
     let areas : k .before .blocks2 .result + 1 ≡ areasOf (a .asked .width) (a .asked .height) = ap (λ (n : ℕ). n + 1) (k .before .blocks2 .ensures .0) in (
       omega arith,
       refl,
-      c .next-area .ensures
-          ∙ ap₂ (λ (x n : ℕ). cond (ltb (x + 1) n) (x + 1) 0) (k .loop .inv .2) areas
-          ∙ next-area (k .loop .e) (areasOf (a .asked .width) (a .asked .height)) (areas-some (a .asked .width) (a .asked .height)),
+      c .next-area .ensures ∙ ap₂ (λ (x n : ℕ). (x + 1) % n) (k .loop .inv .2) areas ∙ mod-add-mod (k .loop .e) (areasOf (a .asked .width) (a .asked .height)) 1,
       asked-more _ _ _ (a .totals .now) (a .counts .now) _ _ _ _ _ (k .loop .inv .3) (k .loop .inv .2) (called .area-sites .ensures) (c .before .impossible .ensures),
     )
 
