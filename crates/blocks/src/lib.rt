@@ -75,7 +75,7 @@ fn area(width: usize, height: usize, k: usize) -> PlaneBox
     }
 }
 
-// The entries of area k in all four planes.
+// Stores the entries of area k, one of each plane.
 fn store(
     entries: &mut [u32],
     areas: usize,
@@ -94,7 +94,7 @@ fn store(
     entries[3 * areas + k] = fourth;
 }
 
-// Every entry of the table, area after area, two planes of it together.
+// Every entry of the table: area after area, all four planes of it at once.
 fn sum_areas(
     width: usize,
     height: usize,

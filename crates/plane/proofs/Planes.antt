@@ -17,7 +17,8 @@ use Rattle.window.specs.View.{surveyed, seen, one}
 use Rattle.window.proofs.Sides.{Sides}
 use Rattle.window.proofs.Views.{seen-is, seen-le, seen-counted, seen-shift}
 use Rattle.window.proofs.Walks.{Whole, walked-whole, walked-some}
-use Rattle.plane.specs.Plane.{rowParity, columnParity, planeOf, planeRow, planeColumn, siteAt, boxSum, Inner, sums, boxSums}
+use Rattle.plane.specs.Plane.{rowParity, columnParity, planeOf, planeRow, planeColumn, siteAt, boxSum, sums, boxSums}
+use Rattle.plane.specs.Walk.{Inner}
 use Rattle.plane.specs.declared.PlaneBox.{PlaneBox}
 use Rattle.plane.specs.declared.Sums.{Sums}
 

@@ -2,7 +2,6 @@
 use Prim.Native.Nat.{ℕ, _+_, _*_, _/_, _%_, min}
 use mathlib.Core.Bool.{cond}
 use mathlib.Core.List.{List}
-use mathlib.Core.Path.{_≡_}
 use lib.Dec.{eqb}
 use lib.ListN.{length}
 use Rattle.laws.specs.Sum.{sumBox}
@@ -38,13 +37,6 @@ siteAt w plane u v = (2 * u + rowParity plane) * w + columnParity plane + 2 * v
 unfoldable pub boxSum : ℕ → ℕ → ℕ → PlaneBox → (ℕ → ℕ) → ℕ
 boxSum w h plane within view =
     sumBox (within .top) (min (within .bottom) (h / 2)) (within .left) (min (within .right) (w / 2)) (λ (u v : ℕ). view (siteAt w plane u v))
-
--- the part of a box that lies inside the plane
-pub record Inner (w h : ℕ) (within part : PlaneBox) : Type 0 where
-  pub bottom : part .bottom ≡ min (within .bottom) (h / 2)
-  pub right : part .right ≡ min (within .right) (w / 2)
-  pub top : part .top ≡ min (within .top) (part .bottom)
-  pub left : part .left ≡ min (within .left) (part .right)
 
 abbrev pub sums : ℕ → ℕ → Sums
 sums count total = record { count = count; total = total }

@@ -1,11 +1,12 @@
-// The four planes of a window, and what is seen in a box of one: document 01, "Defective sites", "Colour ratios".
+// The four planes of a window, and what is seen in a box of one, or of two that share their rows: document 01, "Defective sites", "Colour ratios"; document 02, j.
 ghost use mathlib.Core.Path.{_≡_};
 ghost use Prim.Native.Nat.{ℕ, _+_, _*_, _/_, _≤_, _<_, min};
 ghost use lib.ListN.{length};
 ghost use Rattle.laws.specs.Sum.{sumIn, sumBox};
 ghost use Rattle.window.specs.View.{seenAt, seen, one};
 ghost use Rattle.window.specs.Walk.{walked};
-ghost use Rattle.plane.specs.Plane.{siteAt, Inner, boxSums, pairSums};
+ghost use Rattle.plane.specs.Plane.{siteAt, boxSums, pairSums};
+ghost use Rattle.plane.specs.Walk.{Inner};
 
 // A box of a plane's coordinates: rows from top to before bottom, columns from left to before right.
 pub struct PlaneBox {
