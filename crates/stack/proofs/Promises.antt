@@ -29,7 +29,7 @@ use Rattle.window.proofs.Views.{Agree, same-view, seen-is, seen-in, seen-out}
 use Rattle.refusals.specs.Judge.{frameVerdict}
 use Rattle.refusals.proofs.Ranges.{one-counting}
 use Rattle.refusals.proofs.Judges.{Masked}
-use Rattle.stack.specs.Sums.{squared, added, spread}
+use Rattle.stack.specs.Sums.{squared, added, scatter}
 use Rattle.stack.specs.Add.{addVerdict, addAnswer, addPaperOf, addPaper, addSums, addSquares}
 use Rattle.stack.specs.Variance.{varianceVerdict, noVariance, varianceAnswer, variancePaperOf, variancePaper}
 use Rattle.stack.specs.Run.{Stack, offered, run, runVerdict, overFrames}
@@ -37,7 +37,7 @@ use Rattle.stack.specs.declared.Variance.the-variants.{Figures}
 use Rattle.stack.proofs.Turns.{added-same, added-keeps}
 use Rattle.stack.proofs.Adds as adds
 use Rattle.stack.proofs.Variances as variances
-use Rattle.stack.proofs.Runs.{over-ext, Reordered, as-many, InRange, AllInRange, range-order, range-repeated, sumAt, squareAt, sum-out, square-out, run-is, run-clear, taken, run-spread, variance-clear, equal-spread, same-stack}
+use Rattle.stack.proofs.Runs.{over-ext, Reordered, as-many, InRange, AllInRange, range-order, range-repeated, sumAt, squareAt, sum-out, square-out, run-is, run-clear, taken, run-scatter, variance-clear, equal-scatter, same-stack}
 
 -- ---- adding a frame
 module _ (w h full k : ℕ) (mask frame sums squares : List ℕ) where
@@ -126,16 +126,16 @@ module _ (w h full k : ℕ) (mask sums squares : List ℕ) where
   variance-blind sums′ squares′ s q = rw (s .long, q .long, same-view s, same-view q)
 
   -- spare: with document 01's 14, where the numerator is 2^53 or more, put last, every verdict is the same (document 02, h)
-  pub variance-spare : varianceVerdict w h full k mask sums squares ⨟ refuseIf 14 0 (leb (2 ^ 53) (spread (sitesOf w h) k (seen mask sums) (seen mask squares)))
+  pub variance-spare : varianceVerdict w h full k mask sums squares ⨟ refuseIf 14 0 (leb (2 ^ 53) (scatter (sitesOf w h) k (seen mask sums) (seen mask squares)))
       ≡ varianceVerdict w h full k mask sums squares
   variance-spare =
       then-spare (varianceVerdict w h full k mask sums squares) (refusal 14 0) (λ e.
-      lt-leb (2 ^ 53) (spread (sitesOf w h) k (seen mask sums) (seen mask squares)) (variances.exact w h full k mask sums squares (variances.accepted w h full k mask sums squares e)))
+      lt-leb (2 ^ 53) (scatter (sitesOf w h) k (seen mask sums) (seen mask squares)) (variances.exact w h full k mask sums squares (variances.accepted w h full k mask sums squares e)))
 
   -- of an accepted variance: no s² is above its k × q, so no difference of the numerator is cut off at 0
   pub variance-whole : (p q : ℕ) (x : Float) → varianceAnswer w h full k mask sums squares ≡ Figures p q x
       → (i : ℕ) → i < sitesOf w h → seen mask sums i * seen mask sums i ≤ k * seen mask squares i
-  variance-whole p q x e i l = variances.answer-is w h full k mask sums squares p q x e .0 .possible i l .spread
+  variance-whole p q x e i l = variances.answer-is w h full k mask sums squares p q x e .0 .possible i l .scatter
 
   -- in-limits: the numerator is at most n × (k × full scale)², so below 2^53, and so is the denominator; both are exact as floats
   pub variance-in-limits : (p q : ℕ) (x : Float) → varianceAnswer w h full k mask sums squares ≡ Figures p q x
@@ -143,7 +143,7 @@ module _ (w h full k : ℕ) (mask sums squares : List ℕ) where
       (p ≤ n * (k * full * (k * full))) × (p < 2 ^ 53) × (q < 2 ^ 53) × ExactFloat p × ExactFloat q
   variance-in-limits p q x e =
       let is = variances.answer-is w h full k mask sums squares p q x e in
-      let most = variances.spread-most (sitesOf w h) full k mask sums squares (is .0 .possible) in
+      let most = variances.scatter-most (sitesOf w h) full k mask sums squares (is .0 .possible) in
       let below : (p < 2 ^ 53) × (q < 2 ^ 53) =
       rw (is .1, is .2) (variances.exact w h full k mask sums squares (is .0), omega (arith, variances.denominator-fits w h full k mask sums squares (is .0))) in
       (rw (is .1) most, below .0, below .1, exact-float p (omega (arith, below .0)), exact-float q (omega (arith, below .1)))
@@ -219,5 +219,5 @@ module _ (w h full : ℕ) (mask : List ℕ) where
       let clear = run-clear w h full mask legal fs all (omega (arith, many)) in
       let accepted = variance-clear w h full mask legal fs all (omega (arith, many)) (omega (arith, many)) some in
       let frames : 0 < k = omega arith in
-      rw (run-is w h full mask fs clear, accepted, run-spread w h full mask fs, many, equal-spread (sitesOf w h) k mask frame)
+      rw (run-is w h full mask fs clear, accepted, run-scatter w h full mask fs, many, equal-scatter (sitesOf w h) k mask frame)
       (ap (Figures 0 (sumTo (sitesOf w h) (one mask) * (k * k))) (quotient-zero (sumTo (sitesOf w h) (one mask) * (k * k)) (mul-pos some (mul-pos frames frames))))

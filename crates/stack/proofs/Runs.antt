@@ -22,7 +22,7 @@ use Rattle.window.specs.Shape.{badCount, sitesOf}
 use Rattle.window.specs.View.{surveyed, seen, one}
 use Rattle.window.proofs.Views.{seen-is, seen-in, seen-out}
 use Rattle.refusals.proofs.Judges.{Masked, clear-mask, clear-frame}
-use Rattle.stack.specs.Sums.{stackLengths, impossibleAt, impossibleIn, squared, added, spread}
+use Rattle.stack.specs.Sums.{stackLengths, impossibleAt, impossibleIn, squared, added, scatter}
 use Rattle.stack.specs.Add.{addVerdict, addSums, addSquares}
 use Rattle.stack.specs.Variance.{tooFew, varianceVerdict}
 use Rattle.stack.specs.Run.{Stack, offered, run, runVerdict, overFrames}
@@ -217,11 +217,11 @@ module _ (w h full : ℕ) (mask : List ℕ) where
 
   -- ---- the variance of a run
   -- its numerator is that of the frames' own sums
-  pub run-spread : (fs : List (List ℕ))
-      → spread (sitesOf w h) (length fs) (seen mask (stackOf fs .sums)) (seen mask (stackOf fs .squares))
-      ≡ spread (sitesOf w h) (length fs) (sumAt mask fs) (squareAt mask fs)
-  unfolding spread
-  run-spread fs =
+  pub run-scatter : (fs : List (List ℕ))
+      → scatter (sitesOf w h) (length fs) (seen mask (stackOf fs .sums)) (seen mask (stackOf fs .squares))
+      ≡ scatter (sitesOf w h) (length fs) (sumAt mask fs) (squareAt mask fs)
+  unfolding scatter
+  run-scatter fs =
       sum-ext (sitesOf w h)
       (λ (i : ℕ). length fs * seen mask (stackOf fs .squares) i - seen mask (stackOf fs .sums) i * seen mask (stackOf fs .sums) i)
       (λ (i : ℕ). length fs * squareAt mask fs i - sumAt mask fs i * sumAt mask fs i)
@@ -242,9 +242,9 @@ module _ (w h full : ℕ) (mask : List ℕ) where
 equal-none : (k p : ℕ) → k * (k * (p * p)) - k * p * (k * p) ≡ 0
 equal-none k p = omega (arith, mul-mul-mul-comm k p k p, mul-assoc k k (p * p))
 
-pub equal-spread : (n k : ℕ) (mask frame : List ℕ) → spread n k (sumAt mask (replicate k frame)) (squareAt mask (replicate k frame)) ≡ 0
-unfolding spread
-equal-spread n k mask frame =
+pub equal-scatter : (n k : ℕ) (mask frame : List ℕ) → scatter n k (sumAt mask (replicate k frame)) (squareAt mask (replicate k frame)) ≡ 0
+unfolding scatter
+equal-scatter n k mask frame =
     sum-zero n (λ (i : ℕ). k * squareAt mask (replicate k frame) i - sumAt mask (replicate k frame) i * sumAt mask (replicate k frame) i)
     (λ i l. rw (over-repeated k frame (λ (f : List ℕ). seen mask f i), over-repeated k frame (λ (f : List ℕ). squared (seen mask f) i)) (equal-none k (seen mask frame i)))
 

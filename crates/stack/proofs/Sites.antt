@@ -69,7 +69,7 @@ module _ (full k mask sums squares : ℕ) where
 pub record Possible (full k s q : ℕ) : Type 0 where
   pub sum : s ≤ k * full
   pub square : q ≤ k * (full * full)
-  pub spread : s * s ≤ k * q
+  pub scatter : s * s ≤ k * q
 
 module _ (full k s q : ℕ) where
   pub possible-is : impossible full k s q ≡ false → Possible full k s q
@@ -77,21 +77,21 @@ module _ (full k s q : ℕ) where
   possible-is e =
       let a = neither (ltb (k * full) s) (ltb (k * (full * full)) q || ltb (k * q) (s * s)) e in
       let b = neither (ltb (k * (full * full)) q) (ltb (k * q) (s * s)) (a .1) in
-      record { sum = ltb-false (k * full) s (a .0); square = ltb-false (k * (full * full)) q (b .0); spread = ltb-false (k * q) (s * s) (b .1) }
+      record { sum = ltb-false (k * full) s (a .0); square = ltb-false (k * (full * full)) q (b .0); scatter = ltb-false (k * q) (s * s) (b .1) }
 
   pub is-possible : Possible full k s q → impossible full k s q ≡ false
   unfolding impossible
-  is-possible p = rw (le-ltb (k * full) s (p .sum), le-ltb (k * (full * full)) q (p .square), le-ltb (k * q) (s * s) (p .spread))
+  is-possible p = rw (le-ltb (k * full) s (p .sum), le-ltb (k * (full * full)) q (p .square), le-ltb (k * q) (s * s) (p .scatter))
 
 -- no frames have the sums 0 and 0, and one frame more keeps sums possible
 pub possible-none : (full : ℕ) → Possible full 0 0 0
-possible-none full = record { sum = omega arith; square = omega arith; spread = omega arith }
+possible-none full = record { sum = omega arith; square = omega arith; scatter = omega arith }
 
 pub possible-more : (full k s q p : ℕ) → Possible full k s q → p ≤ full → Possible full (k + 1) (s + p) (q + p * p)
 possible-more full k s q p a l = record {
   sum = omega (arith, add-mul k 1 full);
   square = omega (arith, add-mul k 1 (full * full), times-le p p full full l l);
-  spread = schwarz-more k q s p (a .spread);
+  scatter = schwarz-more k q s p (a .scatter);
 }
 
 -- the sums of a whole window can be read, so 11 is asked of them all

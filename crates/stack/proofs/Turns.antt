@@ -18,7 +18,7 @@ use Rattle.verdict.specs.Verdict.{refuseWith, refuseIf}
 use Rattle.verdict.specs.declared.Verdict.the-variants.{Clear}
 use Rattle.window.specs.View.{surveyed, seenAt, seen}
 use Rattle.window.proofs.Views.{seen-is, seen-in}
-use Rattle.stack.specs.Sums.{impossible, impossibleAt, impossibleIn, squared, added, spread}
+use Rattle.stack.specs.Sums.{impossible, impossibleAt, impossibleIn, squared, added, scatter}
 use Rattle.stack.specs.Walk.{readable}
 
 -- adding: what stands at the site still is what stood there, so the sum that is stored is the one that is defined
@@ -61,15 +61,15 @@ module _ (n k : ℕ) (s q : ℕ → ℕ) (h : (i : ℕ) → i < n → s i * s i 
   less-than-whole : sumTo n (squared s) ≤ k * sumTo n q
   less-than-whole = sum-scaled n k q (squared s) h
 
-  spread-is : k * sumTo n q - sumTo n (squared s) ≡ spread n k s q
-  unfolding spread
-  spread-is =
+  scatter-is : k * sumTo n q - sumTo n (squared s) ≡ scatter n k s q
+  unfolding scatter
+  scatter-is =
       let rejoined : sumTo n (λ (i : ℕ). k * q i - s i * s i + s i * s i) ≡ sumTo n (λ (i : ℕ). k * q i) = sum-ext n _ _ (λ i l. omega (arith, h i l)) in
       omega (arith, rejoined, sum-add n (λ (i : ℕ). k * q i - s i * s i) (squared s), sum-times n k q)
 
   -- of both sums at the end of the walk
-  pub spread-of : (i a b : ℕ) → i ≡ n → a ≡ sumTo i (squared s) → b ≡ sumTo i q → (a ≤ k * b) × (k * b - a ≡ spread n k s q)
-  spread-of i a b e p r = rw (p, r, e) (less-than-whole, spread-is)
+  pub scatter-of : (i a b : ℕ) → i ≡ n → a ≡ sumTo i (squared s) → b ≡ sumTo i q → (a ≤ k * b) × (k * b - a ≡ scatter n k s q)
+  scatter-of i a b e p r = rw (p, r, e) (less-than-whole, scatter-is)
 
 -- s² at a site is at most 100 times the largest sum of squares that 32 bits hold
 pub square-small : (k : ℕ) (mask sums squares : List ℕ) (i s q : ℕ) → k ≤ 100 → q ≤ 4294967295

@@ -27,7 +27,7 @@ use Rattle.window.proofs.Walks.{walked-whole}
 use Rattle.window.proofs.Views.{surveyed-most, seen-counted}
 use Rattle.refusals.specs.Judge.{otherThan, maskVerdict}
 use Rattle.refusals.proofs.Judges.{codesTest, Masked, mask-clear, mask-tabled}
-use Rattle.stack.specs.Sums.{stackLengths, impossibleIn, spread}
+use Rattle.stack.specs.Sums.{stackLengths, impossibleIn, scatter}
 use Rattle.stack.specs.Walk.{readable}
 use Rattle.stack.specs.Variance.{tooFew, varianceVerdict, varianceAnswer, variancePaperOf, variancePaper}
 use Rattle.stack.specs.declared.Variance.the-variants.{Figures, Refused}
@@ -42,10 +42,10 @@ enough n k e =
     (omega arith, ltb-false k 2 (both .1))
 
 -- the numerator of possible sums is at most n × (k × full scale)², since no k × q is above (k × full scale)²
-pub spread-most : (N full k : ℕ) (mask sums squares : List ℕ) → ((i : ℕ) → i < N → Possible full k (seen mask sums i) (seen mask squares i))
-    → spread N k (seen mask sums) (seen mask squares) ≤ sumTo N (one mask) * (k * full * (k * full))
-unfolding spread
-spread-most N full k mask sums squares possible =
+pub scatter-most : (N full k : ℕ) (mask sums squares : List ℕ) → ((i : ℕ) → i < N → Possible full k (seen mask sums i) (seen mask squares i))
+    → scatter N k (seen mask sums) (seen mask squares) ≤ sumTo N (one mask) * (k * full * (k * full))
+unfolding scatter
+scatter-most N full k mask sums squares possible =
     let n = sumTo N (one mask) in
     let total = sum-scaled N (k * full * (k * full)) (one mask) (λ (i : ℕ). k * seen mask squares i - seen mask sums i * seen mask sums i) site in
     omega (arith, total, mul-comm n (k * full * (k * full)))
@@ -115,13 +115,13 @@ module _ (w h full k : ℕ) (mask sums squares : List ℕ) where
 
   -- so the quotient is of two numbers that have exact floats
   module _ (a : Accepted) where
-    pub exact : spread (sitesOf w h) k (seen mask sums) (seen mask squares) < 2 ^ 53
+    pub exact : scatter (sitesOf w h) k (seen mask sums) (seen mask squares) < 2 ^ 53
     exact =
         let n = sumTo (sitesOf w h) (one mask) in
         let side : k * full ≤ 100 * 4095 = times-le k full 100 4095 (a .most) (scale full (a .lent .scaled) .high) in
         let square = times-le (k * full) (k * full) (100 * 4095) (100 * 4095) side side in
         let all = times-le n (k * full * (k * full)) 16384 (100 * 4095 * (100 * 4095)) (surveyed-most w h mask) square in
-        omega (arith, spread-most (sitesOf w h) full k mask sums squares (a .possible), all)
+        omega (arith, scatter-most (sitesOf w h) full k mask sums squares (a .possible), all)
 
     frames-fit : k * k ≤ 10000
     frames-fit = times-le k k 100 100 (a .most) (a .most)
@@ -129,7 +129,7 @@ module _ (w h full k : ℕ) (mask sums squares : List ℕ) where
     pub denominator-fits : sumTo (sitesOf w h) (one mask) * (k * k) ≤ 16384 * 10000
     denominator-fits = times-le (sumTo (sitesOf w h) (one mask)) (k * k) 16384 10000 (surveyed-most w h mask) frames-fit
 
-    pub ranged : Ranged (spread (sitesOf w h) k (seen mask sums) (seen mask squares)) (sumTo (sitesOf w h) (one mask) * (k * k))
+    pub ranged : Ranged (scatter (sitesOf w h) k (seen mask sums) (seen mask squares)) (sumTo (sitesOf w h) (one mask) * (k * k))
     ranged =
         let frames : 0 < k = omega (arith, a .least) in
         record { top = omega (arith, exact); some = mul-pos (a .some) (mul-pos frames frames); bottom = omega (arith, denominator-fits) }
@@ -137,7 +137,7 @@ module _ (w h full k : ℕ) (mask sums squares : List ℕ) where
   -- what a variance that is answered says
   pub answer-is : (p q : ℕ) (x : Float) → varianceAnswer w h full k mask sums squares ≡ Figures p q x
       → Accepted
-      × (p ≡ spread (sitesOf w h) k (seen mask sums) (seen mask squares)) × (q ≡ sumTo (sitesOf w h) (one mask) * (k * k)) × (x ≡ quotient p q)
+      × (p ≡ scatter (sitesOf w h) k (seen mask sums) (seen mask squares)) × (q ≡ sumTo (sitesOf w h) (one mask) * (k * k)) × (x ≡ quotient p q)
   unfolding varianceAnswer
   answer-is p q x e =
       let was = was-accepted (varianceVerdict w h full k mask sums squares) (λ r f. let z : _≡_ {A = ℕ} 0 1 = cc in absurd (omega arith)) e in
@@ -160,7 +160,7 @@ module _ (w h full k : ℕ) (mask sums squares : List ℕ) where
           omega (arith, a .lent .masked, sites-few w h),
           a .long .of-sums ∙ sym (a .lent .masked),
           a .long .of-squares ∙ sym (a .lent .masked),
-          (λ i l. a .possible i (omega (arith, a .lent .masked)) .spread),
+          (λ i l. a .possible i (omega (arith, a .lent .masked)) .scatter),
         )
 
     module _ (count : ℕ) (n : count ≡ sumTo (walked w h (length mask)) (one mask)) where
@@ -171,11 +171,11 @@ module _ (w h full k : ℕ) (mask sums squares : List ℕ) where
       products-fit = (frames-fit (accepted clear), rw counted (denominator-fits (accepted clear)))
 
       -- p being the numerator, and v the quotient
-      pub accepted-is : (p : ℕ) (v : Float) → p ≡ spread (length mask) k (seen mask sums) (seen mask squares) → v ≡ quotientOrZero p (count * (k * k))
+      pub accepted-is : (p : ℕ) (v : Float) → p ≡ scatter (length mask) k (seen mask sums) (seen mask squares) → v ≡ quotientOrZero p (count * (k * k))
           → (Figures p (count * (k * k)) v ≡ varianceAnswer w h full k mask sums squares)
           × (variancePaperOf (Figures p (count * (k * k)) v) ≡ variancePaper w h full k mask sums squares)
       unfolding varianceAnswer variancePaper
       accepted-is p v e q =
-          let numerator = e ∙ ap (λ (m : ℕ). spread m k (seen mask sums) (seen mask squares)) (accepted clear .lent .masked) in
-          let one-rounding = ranged-quotient (spread (sitesOf w h) k (seen mask sums) (seen mask squares)) (sumTo (sitesOf w h) (one mask) * (k * k)) (ranged (accepted clear)) in
+          let numerator = e ∙ ap (λ (m : ℕ). scatter m k (seen mask sums) (seen mask squares)) (accepted clear .lent .masked) in
+          let one-rounding = ranged-quotient (scatter (sitesOf w h) k (seen mask sums) (seen mask squares)) (sumTo (sitesOf w h) (one mask) * (k * k)) (ranged (accepted clear)) in
           rw (q, clear, numerator, counted, one-rounding) (refl, refl)

@@ -36,5 +36,5 @@ unfoldable pub added : (ℕ → ℕ) → List ℕ → List ℕ
 added view sums = tabulate (length sums) (λ (i : ℕ). getD sums i 0 + view i)
 
 -- the sum of k × q − s² over n sites: 11 has made sure that no s² is above its k × q
-unfoldable pub spread : ℕ → ℕ → (ℕ → ℕ) → (ℕ → ℕ) → ℕ
-spread n k s q = sumTo n (λ (i : ℕ). k * q i - s i * s i)
+unfoldable pub scatter : ℕ → ℕ → (ℕ → ℕ) → (ℕ → ℕ) → ℕ
+scatter n k s q = sumTo n (λ (i : ℕ). k * q i - s i * s i)

@@ -13,7 +13,7 @@ use Rattle.verdict.specs.declared.Verdict.{Verdict}
 use Rattle.window.specs.Shape.{sitesOf, badCount}
 use Rattle.window.specs.View.{seen, one}
 use Rattle.refusals.specs.Judge.{maskVerdict}
-use Rattle.stack.specs.Sums.{stackLengths, impossibleIn, spread}
+use Rattle.stack.specs.Sums.{stackLengths, impossibleIn, scatter}
 use Rattle.stack.specs.declared.Variance.{Variance}
 use Rattle.stack.specs.declared.Variance.the-variants.{Figures, Refused}
 
@@ -40,7 +40,7 @@ noVariance = record { numerator = 0; denominator = 0; variance = ofBits binary64
 
 abbrev pub varianceFigures : ℕ → ℕ → ℕ → List ℕ → List ℕ → List ℕ → VarianceFigures
 varianceFigures w h k mask sums squares =
-    let numerator = spread (sitesOf w h) k (seen mask sums) (seen mask squares) in
+    let numerator = scatter (sitesOf w h) k (seen mask sums) (seen mask squares) in
     let denominator = sumTo (sitesOf w h) (one mask) * (k * k) in
     record { numerator = numerator; denominator = denominator; variance = quotient numerator denominator }
 

@@ -7,7 +7,7 @@ ghost use Rattle.laws.specs.Sum.{sumTo};
 ghost use Rattle.verdict.specs.Verdict.{refuseIf};
 ghost use Rattle.window.specs.Walk.{walked};
 ghost use Rattle.window.specs.View.{seenAt, seen, one};
-ghost use Rattle.stack.specs.Sums.{stackLengths, impossible, impossibleIn, squared, added, spread};
+ghost use Rattle.stack.specs.Sums.{stackLengths, impossible, impossibleIn, squared, added, scatter};
 ghost use Rattle.stack.specs.Walk.{readable};
 ghost use Rattle.stack.specs.Variance.{tooFew, varianceVerdict, varianceAnswer, variancePaperOf, variancePaper};
 ghost use Rattle.stack.specs.Add.{addVerdict, addAnswer, addPaperOf, addPaper, addSums, addSquares};
@@ -174,10 +174,10 @@ fn too_few(sites: u64, frames: u64) -> bool
 }
 
 // The sum of k × q − s² over the surveyed sites, of sums that 11 does not refuse: k times the sum of q, less that of s².
-fn spread(frames: u64, mask: &[u8], sums: &[u32], squares: &[u32]) -> u64
+fn scatter(frames: u64, mask: &[u8], sums: &[u32], squares: &[u32]) -> u64
     requires { ⌜ (frames ≤ 100) × (length (now mask) ≤ 16384) × (length (now sums) ≡ length (now mask)) × (length (now squares) ≡ length (now mask))
         × ((i : ℕ) → i < length (now mask) → seen (now mask) (now sums) i * seen (now mask) (now sums) i ≤ frames * seen (now mask) (now squares) i) ⌝ }
-    ensures { λ r. ⌜ r ≡ spread (length (now (mask .entry))) frames (seen (now (mask .entry)) (now (sums .entry))) (seen (now (mask .entry)) (now (squares .entry))) ⌝ }
+    ensures { λ r. ⌜ r ≡ scatter (length (now (mask .entry))) frames (seen (now (mask .entry)) (now (sums .entry))) (seen (now (mask .entry)) (now (squares .entry))) ⌝ }
 {
     let mut of_sums: u64 = 0;
     let mut of_squares: u64 = 0;
@@ -238,7 +238,7 @@ pub fn stack_variance(
     ) {
         Verdict::Refused(refusal) => Variance::Refused(refusal),
         Verdict::Clear => {
-            let numerator = spread(frames, mask, sums, squares);
+            let numerator = scatter(frames, mask, sums, squares);
             let denominator = count * (frames * frames);
             Variance::Figures(numerator, denominator, exact::ratio(numerator, denominator))
         }

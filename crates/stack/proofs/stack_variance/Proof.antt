@@ -33,8 +33,8 @@ enum-known-refusal c = search needs
 enum-told : tie.Need-enum-told
 enum-told c = search needs
 
-spread-requires : tie.Need-spread-requires
-spread-requires c κs = walkable _ _ _ _ _ _ _ (clear c)
+scatter-requires : tie.Need-scatter-requires
+scatter-requires c κs = walkable _ _ _ _ _ _ _ (clear c)
 
 mul-denominator : tie.Need-mul-denominator
 mul-denominator c = omega (arith, fits (c .before))
@@ -50,7 +50,7 @@ returns c = refused-is _ _ _ _ _ _ _ _ (sym (c .before .before .before .judge-va
 
 returns-2 : tie.Need-returns-2
 returns-2 c = let s = c .before in
-    accepted-is _ _ _ _ _ _ _ (clear (s .before)) _ (s .before .before .before .before .surveyed .ensures) _ _ (s .spread .ensures) (c .ratio .ensures)
+    accepted-is _ _ _ _ _ _ _ (clear (s .before)) _ (s .before .before .before .before .surveyed .ensures) _ _ (s .scatter .ensures) (c .ratio .ensures)
 
 pub stack-variance-spec : {M : Type 1} → statement M
 stack-variance-spec =
@@ -60,7 +60,7 @@ stack-variance-spec =
     judge-variance-requires
     enum-known-refusal
     enum-told
-    spread-requires
+    scatter-requires
     mul-denominator
     mul-denominator-2
     ratio-requires

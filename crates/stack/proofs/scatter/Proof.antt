@@ -1,4 +1,4 @@
--- `spread` is right because each turn adds one site's s² and q, as they are seen there, and no s² is above its k × q.
+-- `scatter` is right because each turn adds one site's s² and q, as they are seen there, and no s² is above its k × q.
 use Prim.Native.Nat.{ℕ, _-_, _*_, _≤_}
 use mathlib.Core.Path.{_≡_}
 use native.Mathlib.Omega.{arith}
@@ -8,10 +8,10 @@ use Rattle.laws.specs.Sum.{sumTo}
 use Rattle.laws.proofs.Cases.{times-le}
 use Rattle.laws.proofs.Sums.{sum-none}
 use Rattle.window.specs.View.{seen}
-use Rattle.stack.specs.Sums.{squared, spread}
-use Rattle.stack.proofs.Turns.{spread-of, square-small, seen-more}
-use Rattle.stack.proofs.spread.Statement.{statement}
-use Rattle.stack.proofs.spread.Tie as tie
+use Rattle.stack.specs.Sums.{squared, scatter}
+use Rattle.stack.proofs.Turns.{scatter-of, square-small, seen-more}
+use Rattle.stack.proofs.scatter.Statement.{statement}
+use Rattle.stack.proofs.scatter.Tie as tie
 
 abbrev Inv-loop : tie.InvT-loop
 Inv-loop frames mask sums squares of-sums₀ of-squares₀ i₀ i-end of-sums of-squares i =
@@ -93,10 +93,10 @@ loop-again c = let l = Turn c in
 ended : (c : tie.After-loop Inv-loop μ-loop)
     → (c .before .loop .of-sums ≤ Begun (c .before) .args .frames * c .before .loop .of-squares)
     × (Begun (c .before) .args .frames * c .before .loop .of-squares - c .before .loop .of-sums
-    ≡ spread (length (Begun (c .before) .args .mask .now)) (Begun (c .before) .args .frames) (seen (Begun (c .before) .args .mask .now) (Begun (c .before) .args .sums .now)) (seen (Begun (c .before) .args .mask .now) (Begun (c .before) .args .squares .now)))
+    ≡ scatter (length (Begun (c .before) .args .mask .now)) (Begun (c .before) .args .frames) (seen (Begun (c .before) .args .mask .now) (Begun (c .before) .args .sums .now)) (seen (Begun (c .before) .args .mask .now) (Begun (c .before) .args .squares .now)))
 ended c = let l = c .before in
     let s = Begun l in
-    spread-of (length (s .args .mask .now)) (s .args .frames) (seen (s .args .mask .now) (s .args .sums .now)) (seen (s .args .mask .now) (s .args .squares .now)) (s .pre .4)
+    scatter-of (length (s .args .mask .now)) (s .args .frames) (seen (s .args .mask .now) (s .args .sums .now)) (seen (s .args .mask .now) (s .args .squares .now)) (s .pre .4)
     (l .loop .i) (l .loop .of-sums) (l .loop .of-squares) (omega arith) (l .loop .inv .3) (l .loop .inv .4)
 
 mul-result : tie.Need-mul-result Inv-loop μ-loop
@@ -109,8 +109,8 @@ sub-result c = ended c .0
 returns : tie.Need-returns Inv-loop μ-loop
 returns c = ended c .1
 
-pub spread-spec : {M : Type 1} → statement M
-spread-spec =
+pub scatter-spec : {M : Type 1} → statement M
+scatter-spec =
     tie.close
     (tie.spec
     Inv-loop
