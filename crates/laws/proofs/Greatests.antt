@@ -1,15 +1,52 @@
--- The laws of the greatest of some numbers, and of where it stands first.
+-- The laws of the lesser and the greater of two numbers, of the greatest of more, and of where it stands first.
 use Prim.Native.Nat.{ℕ, zero, suc, _+_, _-_, _<_, _≤_}
 use mathlib.Core.Bool.{Bool, true, false, cond}
-use mathlib.Core.Logic.{⊎-elim}
+use mathlib.Core.Logic.{_⊎_, inl, inr, ⊎-elim}
 use mathlib.Core.Path.{_≡_, refl, sym, subst, ap₂}
 use native.Mathlib.Nat.{add-zero, eq-or-lt-of-le, le-of-suc-le-suc}
 use native.Mathlib.Omega.{arith}
 use lib.Dec.{eqb, ltb}
 use borrow.Author.Tests.{ltb-true, ltb-false, eq-eqb, ne-eqb}
-use Rattle.laws.specs.Greatest.{greater, greatestTo, greatestIn, firstGreatest}
+use Rattle.laws.specs.Greatest.{lesser, greater, greatestTo, greatestIn, firstGreatest}
 use Rattle.laws.proofs.Cases.{lt-or-ge, true-or-false}
 use Rattle.laws.proofs.Firsts.{first-end, first-here, first-ext}
+
+-- what the lesser and the greater of two have in common: the one chosen is one of the two, and stands before both, below them or above them
+pub record Choice (choose : ℕ → ℕ → ℕ) (Before : ℕ → ℕ → Type 0) : Type 0 where
+  pub one : (x y : ℕ) → (choose x y ≡ x) ⊎ (choose x y ≡ y)
+  pub left : (x y : ℕ) → Before (choose x y) x
+  pub right : (x y : ℕ) → Before (choose x y) y
+  pub self : (x : ℕ) → Before x x
+  pub far : (x y z : ℕ) → Before x y → Before y z → Before x z
+  pub same : (x y : ℕ) → Before x y → Before y x → x ≡ y
+
+module _ {choose : ℕ → ℕ → ℕ} {Before : ℕ → ℕ → Type 0} (c : Choice choose Before) where
+  -- what holds of both holds of the one chosen
+  pub choice-of : (P : ℕ → Type 0) (x y : ℕ) → P x → P y → P (choose x y)
+  choice-of P x y p q = ⊎-elim (λ e. rw e p) (λ e. rw e q) (c .one x y)
+
+  -- the order of two does not matter
+  pub choice-comm : (x y : ℕ) → choose x y ≡ choose y x
+  choice-comm x y =
+      c .same (choose x y) (choose y x)
+      (choice-of (Before (choose x y)) y x (c .right x y) (c .left x y))
+      (choice-of (Before (choose y x)) x y (c .right y x) (c .left y x))
+
+  -- nor does that of the last two of three
+  first-of-three : (x y z : ℕ) → Before (choose (choose x y) z) x
+  first-of-three x y z = c .far _ (choose x y) x (c .left (choose x y) z) (c .left x y)
+
+  second-of-three : (x y z : ℕ) → Before (choose (choose x y) z) y
+  second-of-three x y z = c .far _ (choose x y) y (c .left (choose x y) z) (c .right x y)
+
+  three-before : (x y z : ℕ) → Before (choose (choose x y) z) (choose (choose x z) y)
+  three-before x y z =
+      choice-of (Before (choose (choose x y) z)) (choose x z) y
+      (choice-of (Before (choose (choose x y) z)) x z (first-of-three x y z) (c .right (choose x y) z))
+      (second-of-three x y z)
+
+  pub choice-swap : (x y z : ℕ) → choose (choose x y) z ≡ choose (choose x z) y
+  choice-swap x y z = c .same _ _ (three-before x y z) (three-before x z y)
 
 -- neither of two is above the greater
 left-le : (x y : ℕ) → x ≤ greater x y
@@ -17,6 +54,26 @@ left-le x y = ⊎-elim (λ t. rw t (omega (arith, ltb-true x y t))) (λ f. rw f 
 
 right-le : (x y : ℕ) → y ≤ greater x y
 right-le x y = ⊎-elim (λ t. rw t (omega arith)) (λ f. rw f (omega (arith, ltb-false x y f))) (true-or-false (ltb x y))
+
+pub greater-choice : Choice greater (λ (x y : ℕ). y ≤ x)
+greater-choice = record {
+  one = λ x y. ⊎-elim (λ t. inr (rw t)) (λ f. inl (rw f)) (true-or-false (ltb x y));
+  left = left-le;
+  right = right-le;
+  self = λ x. omega arith;
+  far = λ x y z a b. omega arith;
+  same = λ x y a b. omega arith;
+}
+
+pub lesser-choice : Choice lesser (λ (x y : ℕ). x ≤ y)
+lesser-choice = record {
+  one = λ x y. ⊎-elim (λ t. inr (rw t)) (λ f. inl (rw f)) (true-or-false (ltb y x));
+  left = λ x y. ⊎-elim (λ t. rw t (omega (arith, ltb-true y x t))) (λ f. rw f (omega arith)) (true-or-false (ltb y x));
+  right = λ x y. ⊎-elim (λ t. rw t (omega arith)) (λ f. rw f (omega (arith, ltb-false y x f))) (true-or-false (ltb y x));
+  self = λ x. omega arith;
+  far = λ x y z a b. omega arith;
+  same = λ x y a b. omega arith;
+}
 
 -- ---- of f 0 to f n
 to-of : (f : ℕ → ℕ) (P : ℕ → Type 0) (n : ℕ) → ((k : ℕ) → k ≤ n → P (f k)) → P (greatestTo n f)

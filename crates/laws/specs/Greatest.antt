@@ -1,8 +1,12 @@
--- The greatest of whole numbers, and where it stands first.
+-- The lesser and the greater of two whole numbers, the greatest of more, and where it stands first.
 use Prim.Native.Nat.{ℕ, zero, suc, _+_, _-_}
 use mathlib.Core.Bool.{cond}
 use lib.Dec.{eqb, ltb}
 use Rattle.laws.specs.First.{firstTo}
+
+-- the lesser of two
+abbrev pub lesser : ℕ → ℕ → ℕ
+lesser x y = cond (ltb y x) y x
 
 -- the greater of two
 abbrev pub greater : ℕ → ℕ → ℕ
