@@ -1,5 +1,2 @@
-pub mod Sums
-pub mod Add
-pub mod Variance
-pub mod Run
+pub mod State
 pub mod Walk
