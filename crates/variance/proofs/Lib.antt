@@ -1,0 +1,4 @@
+pub mod Turns
+pub mod Variances
+pub mod Runs
+pub mod Promises

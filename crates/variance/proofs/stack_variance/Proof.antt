@@ -1,0 +1,73 @@
+-- `stack_variance` is right because it walks and divides only a stack that is not refused, and there both numbers have exact floats.
+use Prim.Native.Nat.{_*_, _≤_}
+use mathlib.Core.Path.{_≡_, sym, _∙_}
+use native.Mathlib.Omega.{arith}
+use borrow.Author.Needs.{needs}
+use Rattle.verdict.specs.declared.Verdict.the-variants as verdict
+use Rattle.stack.specs.State.{Stack, stackOf}
+use Rattle.variance.specs.Variance.{varianceVerdict}
+use Rattle.variance.proofs.Variances.{refused-is, walkable, products-fit, accepted-is}
+use Rattle.variance.proofs.stack_variance.Statement.{statement}
+use Rattle.variance.proofs.stack_variance.Tie as tie
+
+abbrev Begun : tie.After-enum-told → tie.Start
+Begun c = c .before .before .before .before .before .before .before .before .before
+
+-- the stack that is lent
+abbrev Lent : tie.After-enum-told → Stack
+Lent c =
+    stackOf (Begun c .args .frames) (Begun c .args .sums .now) (Begun c .args .squares .now) (Begun c .args .least .now) (Begun c .args .greatest .now)
+
+clear : (c : tie.After-enum-told)
+    → varianceVerdict (Begun c .args .width) (Begun c .args .height) (Begun c .args .full-scale) (Begun c .args .mask .now) (Lent c) ≡ verdict.Clear
+clear c = sym (c .before .before .judge-variance .ensures) ∙ c .enum-told .given .1
+
+-- both products of the denominator
+fits : (c : tie.After-enum-told) → let k = Begun c .args .frames in (k * k ≤ 10000) × (c .before .before .before .surveyed .result * (k * k) ≤ 16384 * 10000)
+fits c = products-fit _ _ _ _ _ (clear c) _ (c .before .before .before .surveyed .ensures)
+
+surveyed-requires : tie.Need-surveyed-requires
+surveyed-requires c κs = search needs
+
+judge-variance-requires : tie.Need-judge-variance-requires
+judge-variance-requires c κs = search needs
+
+enum-known-refusal : tie.Need-enum-known-refusal
+enum-known-refusal c = search needs
+
+enum-told : tie.Need-enum-told
+enum-told c = search needs
+
+scatter-requires : tie.Need-scatter-requires
+scatter-requires c κs = walkable _ _ _ _ _ (clear c)
+
+mul-denominator : tie.Need-mul-denominator
+mul-denominator c = omega (arith, fits (c .before))
+
+mul-denominator-2 : tie.Need-mul-denominator-2
+mul-denominator-2 c = omega (arith, fits (c .before))
+
+ratio-requires : tie.Need-ratio-requires
+ratio-requires c κs = search needs
+
+returns : tie.Need-returns
+returns c = refused-is _ _ _ _ _ _ (sym (c .before .before .before .judge-variance .ensures) ∙ c .before .refusal .given .1)
+
+returns-2 : tie.Need-returns-2
+returns-2 c = let s = c .before in
+    accepted-is _ _ _ _ _ (clear (s .before)) _ (s .before .before .before .before .surveyed .ensures) _ _ (s .scatter .ensures) (c .ratio .ensures)
+
+pub stack-variance-spec : {M : Type 1} → statement M
+stack-variance-spec =
+    tie.close
+    (tie.spec
+    surveyed-requires
+    judge-variance-requires
+    enum-known-refusal
+    enum-told
+    scatter-requires
+    mul-denominator
+    mul-denominator-2
+    ratio-requires
+    returns
+    returns-2)

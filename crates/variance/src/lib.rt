@@ -1,0 +1,130 @@
+// The variance of a stack: document 01, "Stack", as document 02 i amends it.
+ghost use mathlib.Core.Path.{_≡_};
+ghost use Prim.Native.Nat.{ℕ, _-_, _*_, _≤_, _<_};
+ghost use lib.ListN.{length};
+ghost use Rattle.laws.specs.Sum.{sumTo};
+ghost use Rattle.window.specs.Walk.{walked};
+ghost use Rattle.window.specs.View.{seenAt, seen, one};
+ghost use Rattle.stack.specs.State.{stackOf};
+ghost use Rattle.variance.specs.Variance.{tooFew, varianceVerdict, scatter, varianceAnswer, variancePaperOf, variancePaper};
+use verdict::Refusal;
+use verdict::Verdict;
+
+// Numerator, denominator and their quotient, or a refusal.
+pub enum Variance {
+    Figures(u64, u64, f64),
+    Refused(Refusal),
+}
+
+fn too_few(sites: u64, frames: u64) -> bool
+    ensures { λ r. ⌜ r ≡ tooFew sites frames ⌝ }
+{
+    sites == 0 || frames < 2
+}
+
+// A product as its site's code lets it be seen.
+fn product_at(code: u8, product: u64) -> u64
+    ensures { λ r. ⌜ r ≡ seenAt code product ⌝ }
+{
+    if code == 0 { product } else { 0 }
+}
+
+// k × q − s² at a site, as it is seen.
+fn scatter_at(frames: u32, code: u8, sum: u32, square: u32) -> u64
+    requires { ⌜ (frames ≤ 100) × (seenAt code sum * seenAt code sum ≤ frames * seenAt code square) ⌝ }
+    ensures { λ r. ⌜ r ≡ frames * seenAt code square - seenAt code sum * seenAt code sum ⌝ }
+{
+    let upper = product_at(code, frames as u64 * square as u64);
+    let lower = product_at(code, sum as u64 * sum as u64);
+    upper - lower
+}
+
+// The sum of k × q − s² over the surveyed sites, of a stack that 11 does not refuse.
+fn scatter(frames: u64, mask: &[u8], sums: &[u32], squares: &[u32]) -> u64
+    requires { ⌜ (frames ≤ 100) × (length (now mask) ≤ 16384) × (length (now sums) ≡ length (now mask)) × (length (now squares) ≡ length (now mask))
+        × ((i : ℕ) → i < length (now mask) → seen (now mask) (now sums) i * seen (now mask) (now sums) i ≤ frames * seen (now mask) (now squares) i) ⌝ }
+    ensures { λ r. ⌜ r ≡ scatter (length (now (mask .entry))) frames (seen (now (mask .entry)) (now (sums .entry))) (seen (now (mask .entry)) (now (squares .entry))) ⌝ }
+{
+    let k = frames as u32;
+    let mut total: u64 = 0;
+    for i in 0..mask.len() {
+        total += scatter_at(k, mask[i], sums[i], squares[i]);
+    }
+    total
+}
+
+// Refusals 1 to 5, 7 and 11 of a stack with this many surveyed sites.
+fn judge_variance(
+    width: usize,
+    height: usize,
+    full_scale: u64,
+    frames: u64,
+    mask: &[u8],
+    sums: &[u32],
+    squares: &[u32],
+    least: &[u16],
+    greatest: &[u16],
+    count: u64,
+) -> Verdict
+    requires { ⌜ count ≡ sumTo (walked width height (length (now mask))) (one (now mask)) ⌝ }
+    ensures { λ r. ⌜ r ≡ varianceVerdict width height «full_scale» (now (mask .entry)) (stackOf frames (now (sums .entry)) (now (squares .entry)) (now (least .entry)) (now (greatest .entry))) ⌝ }
+{
+    let bad = verdict::refuse_if(3, 0, window::bad_count(frames));
+    let lengths = stack::lengths(
+        width,
+        height,
+        sums.len(),
+        squares.len(),
+        least.len(),
+        greatest.len(),
+    );
+    let lent = refusals::judge_mask(width, height, full_scale, bad, mask, lengths);
+    let few = verdict::refuse_if(7, 0, too_few(count, frames));
+    let impossible = stack::refuse_impossible(
+        full_scale,
+        frames,
+        mask,
+        sums,
+        squares,
+        least,
+        greatest,
+    );
+    verdict::then(lent, verdict::then(few, impossible))
+}
+
+// The variance of a stack of `frames` frames.
+pub fn stack_variance(
+    width: usize,
+    height: usize,
+    full_scale: u64,
+    frames: u64,
+    mask: &[u8],
+    sums: &[u32],
+    squares: &[u32],
+    least: &[u16],
+    greatest: &[u16],
+) -> Variance
+    ensures answer { λ r. ⌜ r ≡ varianceAnswer width height «full_scale» (now (mask .entry)) (stackOf frames (now (sums .entry)) (now (squares .entry)) (now (least .entry)) (now (greatest .entry))) ⌝ }
+    ensures paper { λ r. ⌜ variancePaperOf r ≡ variancePaper width height «full_scale» (now (mask .entry)) (stackOf frames (now (sums .entry)) (now (squares .entry)) (now (least .entry)) (now (greatest .entry))) ⌝ }
+{
+    let count = window::surveyed(width, height, mask);
+    match judge_variance(
+        width,
+        height,
+        full_scale,
+        frames,
+        mask,
+        sums,
+        squares,
+        least,
+        greatest,
+        count,
+    ) {
+        Verdict::Refused(refusal) => Variance::Refused(refusal),
+        Verdict::Clear => {
+            let numerator = scatter(frames, mask, sums, squares);
+            let denominator = count * (frames * frames);
+            Variance::Figures(numerator, denominator, exact::ratio(numerator, denominator))
+        }
+    }
+}
