@@ -1,0 +1,4 @@
+pub mod Blinkings
+pub mod Counts
+pub mod Jumps
+pub mod Promises

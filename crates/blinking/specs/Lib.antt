@@ -1,0 +1,2 @@
+pub mod Blinking
+pub mod Jumps
