@@ -1,9 +1,12 @@
 // Stack.
 ghost use mathlib.Core.Path.{_≡_};
-ghost use Rattle.stack.specs.Add.{addPaper, addSums, addSquares};
-ghost use Rattle.stack.specs.Variance.{variancePaper};
-use stack::Added;
-use stack::Variance;
+ghost use Rattle.stack.specs.State.{stackOf};
+ghost use Rattle.adding.specs.Add.{addPaper, addStack};
+ghost use Rattle.variance.specs.Variance.{variancePaper};
+ghost use Rattle.blinking.specs.Blinking.{blinkingPaper};
+use adding::Added;
+use blinking::Blinking;
+use variance::Variance;
 
 #[no_mangle]
 pub extern "C" fn tip_stack_add(
@@ -15,18 +18,22 @@ pub extern "C" fn tip_stack_add(
     frame: &[u16],
     sums: &mut [u32],
     squares: &mut [u32],
+    least: &mut [u16],
+    greatest: &mut [u16],
     place: &mut u64,
     over: &mut u64,
     count: &mut u64,
 ) -> u64
-    ensures number { λ r. ⌜ r ≡ addPaper width height «full_scale» frames (now (mask .entry)) (now (frame .entry)) (now (sums .entry)) (now (squares .entry)) .number ⌝ }
-    ensures place { λ r. ⌜ now (place .exit) ≡ addPaper width height «full_scale» frames (now (mask .entry)) (now (frame .entry)) (now (sums .entry)) (now (squares .entry)) .place ⌝ }
-    ensures over { λ r. ⌜ now (over .exit) ≡ addPaper width height «full_scale» frames (now (mask .entry)) (now (frame .entry)) (now (sums .entry)) (now (squares .entry)) .over ⌝ }
-    ensures count { λ r. ⌜ now (count .exit) ≡ addPaper width height «full_scale» frames (now (mask .entry)) (now (frame .entry)) (now (sums .entry)) (now (squares .entry)) .figures ⌝ }
-    ensures sums { λ r. ⌜ now (sums .exit) ≡ addSums width height «full_scale» frames (now (mask .entry)) (now (frame .entry)) (now (sums .entry)) (now (squares .entry)) ⌝ }
-    ensures squares { λ r. ⌜ now (squares .exit) ≡ addSquares width height «full_scale» frames (now (mask .entry)) (now (frame .entry)) (now (sums .entry)) (now (squares .entry)) ⌝ }
+    ensures number { λ r. ⌜ r ≡ addPaper width height «full_scale» (now (mask .entry)) (now (frame .entry)) (stackOf frames (now (sums .entry)) (now (squares .entry)) (now (least .entry)) (now (greatest .entry))) .number ⌝ }
+    ensures place { λ r. ⌜ now (place .exit) ≡ addPaper width height «full_scale» (now (mask .entry)) (now (frame .entry)) (stackOf frames (now (sums .entry)) (now (squares .entry)) (now (least .entry)) (now (greatest .entry))) .place ⌝ }
+    ensures over { λ r. ⌜ now (over .exit) ≡ addPaper width height «full_scale» (now (mask .entry)) (now (frame .entry)) (stackOf frames (now (sums .entry)) (now (squares .entry)) (now (least .entry)) (now (greatest .entry))) .over ⌝ }
+    ensures count { λ r. ⌜ now (count .exit) ≡ addPaper width height «full_scale» (now (mask .entry)) (now (frame .entry)) (stackOf frames (now (sums .entry)) (now (squares .entry)) (now (least .entry)) (now (greatest .entry))) .figures ⌝ }
+    ensures sums { λ r. ⌜ now (sums .exit) ≡ addStack width height «full_scale» (now (mask .entry)) (now (frame .entry)) (stackOf frames (now (sums .entry)) (now (squares .entry)) (now (least .entry)) (now (greatest .entry))) .sums ⌝ }
+    ensures squares { λ r. ⌜ now (squares .exit) ≡ addStack width height «full_scale» (now (mask .entry)) (now (frame .entry)) (stackOf frames (now (sums .entry)) (now (squares .entry)) (now (least .entry)) (now (greatest .entry))) .squares ⌝ }
+    ensures least { λ r. ⌜ now (least .exit) ≡ addStack width height «full_scale» (now (mask .entry)) (now (frame .entry)) (stackOf frames (now (sums .entry)) (now (squares .entry)) (now (least .entry)) (now (greatest .entry))) .least ⌝ }
+    ensures greatest { λ r. ⌜ now (greatest .exit) ≡ addStack width height «full_scale» (now (mask .entry)) (now (frame .entry)) (stackOf frames (now (sums .entry)) (now (squares .entry)) (now (least .entry)) (now (greatest .entry))) .greatest ⌝ }
 {
-    match stack::stack_add(
+    match adding::stack_add(
         width,
         height,
         full_scale,
@@ -35,6 +42,8 @@ pub extern "C" fn tip_stack_add(
         frame,
         sums,
         squares,
+        least,
+        greatest,
     ) {
         Added::Frames(held) => {
             *place = 0;
@@ -60,18 +69,30 @@ pub extern "C" fn tip_stack_variance(
     mask: &[u8],
     sums: &[u32],
     squares: &[u32],
+    least: &[u16],
+    greatest: &[u16],
     place: &mut u64,
     numerator: &mut u64,
     denominator: &mut u64,
     variance: &mut f64,
 ) -> u64
-    ensures number { λ r. ⌜ r ≡ variancePaper width height «full_scale» frames (now (mask .entry)) (now (sums .entry)) (now (squares .entry)) .number ⌝ }
-    ensures place { λ r. ⌜ now (place .exit) ≡ variancePaper width height «full_scale» frames (now (mask .entry)) (now (sums .entry)) (now (squares .entry)) .place ⌝ }
-    ensures numerator { λ r. ⌜ now (numerator .exit) ≡ variancePaper width height «full_scale» frames (now (mask .entry)) (now (sums .entry)) (now (squares .entry)) .figures .numerator ⌝ }
-    ensures denominator { λ r. ⌜ now (denominator .exit) ≡ variancePaper width height «full_scale» frames (now (mask .entry)) (now (sums .entry)) (now (squares .entry)) .figures .denominator ⌝ }
-    ensures variance { λ r. ⌜ now (variance .exit) ≡ variancePaper width height «full_scale» frames (now (mask .entry)) (now (sums .entry)) (now (squares .entry)) .figures .variance ⌝ }
+    ensures number { λ r. ⌜ r ≡ variancePaper width height «full_scale» (now (mask .entry)) (stackOf frames (now (sums .entry)) (now (squares .entry)) (now (least .entry)) (now (greatest .entry))) .number ⌝ }
+    ensures place { λ r. ⌜ now (place .exit) ≡ variancePaper width height «full_scale» (now (mask .entry)) (stackOf frames (now (sums .entry)) (now (squares .entry)) (now (least .entry)) (now (greatest .entry))) .place ⌝ }
+    ensures numerator { λ r. ⌜ now (numerator .exit) ≡ variancePaper width height «full_scale» (now (mask .entry)) (stackOf frames (now (sums .entry)) (now (squares .entry)) (now (least .entry)) (now (greatest .entry))) .figures .numerator ⌝ }
+    ensures denominator { λ r. ⌜ now (denominator .exit) ≡ variancePaper width height «full_scale» (now (mask .entry)) (stackOf frames (now (sums .entry)) (now (squares .entry)) (now (least .entry)) (now (greatest .entry))) .figures .denominator ⌝ }
+    ensures variance { λ r. ⌜ now (variance .exit) ≡ variancePaper width height «full_scale» (now (mask .entry)) (stackOf frames (now (sums .entry)) (now (squares .entry)) (now (least .entry)) (now (greatest .entry))) .figures .variance ⌝ }
 {
-    match stack::stack_variance(width, height, full_scale, frames, mask, sums, squares) {
+    match variance::stack_variance(
+        width,
+        height,
+        full_scale,
+        frames,
+        mask,
+        sums,
+        squares,
+        least,
+        greatest,
+    ) {
         Variance::Figures(upper, lower, quotient) => {
             *place = 0;
             *numerator = upper;
@@ -84,6 +105,50 @@ pub extern "C" fn tip_stack_variance(
             *numerator = 0;
             *denominator = 0;
             *variance = 0.0;
+            refusal.number
+        }
+    }
+}
+
+#[no_mangle]
+pub extern "C" fn tip_blinking_sites(
+    width: usize,
+    height: usize,
+    full_scale: u64,
+    frames: u64,
+    spread: u64,
+    mask: &[u8],
+    sums: &[u32],
+    squares: &[u32],
+    least: &[u16],
+    greatest: &[u16],
+    place: &mut u64,
+    count: &mut u64,
+) -> u64
+    ensures number { λ r. ⌜ r ≡ blinkingPaper width height «full_scale» spread (now (mask .entry)) (stackOf frames (now (sums .entry)) (now (squares .entry)) (now (least .entry)) (now (greatest .entry))) .number ⌝ }
+    ensures place { λ r. ⌜ now (place .exit) ≡ blinkingPaper width height «full_scale» spread (now (mask .entry)) (stackOf frames (now (sums .entry)) (now (squares .entry)) (now (least .entry)) (now (greatest .entry))) .place ⌝ }
+    ensures count { λ r. ⌜ now (count .exit) ≡ blinkingPaper width height «full_scale» spread (now (mask .entry)) (stackOf frames (now (sums .entry)) (now (squares .entry)) (now (least .entry)) (now (greatest .entry))) .figures ⌝ }
+{
+    match blinking::blinking_sites(
+        width,
+        height,
+        full_scale,
+        frames,
+        spread,
+        mask,
+        sums,
+        squares,
+        least,
+        greatest,
+    ) {
+        Blinking::Sites(sites) => {
+            *place = 0;
+            *count = sites;
+            0
+        }
+        Blinking::Refused(refusal) => {
+            *place = refusal.place as u64;
+            *count = 0;
             refusal.number
         }
     }

@@ -3,7 +3,7 @@ use Prim.Native.Nat.{ℕ}
 use mathlib.Core.Path.{sym, ap, _∙_}
 use borrow.Author.Needs.{needs}
 use Rattle.verdict.specs.Answer.{CountedPaper}
-use Rattle.stack.specs.Add.{addPaperOf}
+use Rattle.adding.specs.Add.{addPaperOf}
 use Rattle.tippovrain.proofs.stacks.tip_stack_add.Statement.{statement}
 use Rattle.tippovrain.proofs.stacks.tip_stack_add.Tie as tie
 
@@ -22,19 +22,31 @@ same-length c = search needs
 same-length-2 : tie.Need-same-length-2
 same-length-2 c = search needs
 
-returns : tie.Need-returns
-returns c = let call = c .before .before .before .before .before .before .before .stack-add .ensures in
-    let e = sym (ap addPaperOf (c .before .held .given .1)) ∙ call .1 .0 in
-    (ap (λ (p : CountedPaper ℕ). p .number) e, (ap (λ (p : CountedPaper ℕ). p .place) e, (ap (λ (p : CountedPaper ℕ). p .over) e, (ap (λ (p : CountedPaper ℕ). p .figures) e, call .1 .1))))
-
 same-length-3 : tie.Need-same-length-3
 same-length-3 c = search needs
 
 same-length-4 : tie.Need-same-length-4
 same-length-4 c = search needs
 
+returns : tie.Need-returns
+returns c = let call = c .before .before .before .before .before .before .before .before .before .before .before .stack-add .ensures in
+    let e = sym (ap addPaperOf (c .before .held .given .1)) ∙ call .1 .0 in
+    (ap (λ (p : CountedPaper ℕ). p .number) e, (ap (λ (p : CountedPaper ℕ). p .place) e, (ap (λ (p : CountedPaper ℕ). p .over) e, (ap (λ (p : CountedPaper ℕ). p .figures) e, call .1 .1))))
+
+same-length-5 : tie.Need-same-length-5
+same-length-5 c = search needs
+
+same-length-6 : tie.Need-same-length-6
+same-length-6 c = search needs
+
+same-length-7 : tie.Need-same-length-7
+same-length-7 c = search needs
+
+same-length-8 : tie.Need-same-length-8
+same-length-8 c = search needs
+
 returns-2 : tie.Need-returns-2
-returns-2 c = let call = c .before .before .before .before .before .before .before .stack-add .ensures in
+returns-2 c = let call = c .before .before .before .before .before .before .before .before .before .before .before .stack-add .ensures in
     let e = sym (ap addPaperOf (c .before .refusal .given .1)) ∙ call .1 .0 in
     (ap (λ (p : CountedPaper ℕ). p .number) e, (ap (λ (p : CountedPaper ℕ). p .place) e, (ap (λ (p : CountedPaper ℕ). p .over) e, (ap (λ (p : CountedPaper ℕ). p .figures) e, call .1 .1))))
 
@@ -47,7 +59,11 @@ tip-stack-add-spec =
     enum-known-refusal
     same-length
     same-length-2
-    returns
     same-length-3
     same-length-4
+    returns
+    same-length-5
+    same-length-6
+    same-length-7
+    same-length-8
     returns-2)

@@ -2,7 +2,7 @@
 use mathlib.Core.Path.{sym, ap, _∙_}
 use borrow.Author.Needs.{needs}
 use Rattle.verdict.specs.Answer.{Paper}
-use Rattle.stack.specs.Variance.{VarianceFigures, variancePaperOf}
+use Rattle.variance.specs.Variance.{VarianceFigures, variancePaperOf}
 use Rattle.tippovrain.proofs.stacks.tip_stack_variance.Statement.{statement}
 use Rattle.tippovrain.proofs.stacks.tip_stack_variance.Tie as tie
 
