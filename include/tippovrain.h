@@ -1,8 +1,8 @@
 /*
- * Tippovrain: a camera bench. Figures of noise, dark level, pattern, defects, colour and colour shading from raw Bayer
- * windows that the caller lends, and the gain from a list of such figures at several exposures. It allocates nothing,
- * keeps nothing between two calls, prints nothing, and each call ends on any input. Calls may run at the same time, so
- * long as none writes what another one is lent.
+ * Tippovrain: a camera bench. Figures of noise, dark level, pattern, blinking sites, defects, colour and colour shading
+ * from raw Bayer windows that the caller lends, and the gain from a list of such figures at several exposures. It
+ * allocates nothing, keeps nothing between two calls, prints nothing, and each call ends on any input. Calls may run at
+ * the same time, so long as none writes what another one is lent.
  *
  * Linking. libtippovrain.a is x86-64 code and needs nothing but the C library:
  *
@@ -44,9 +44,13 @@
  *  - A sample is 16 bits, in grey levels: 0 to full_scale at a surveyed site, any number at any other.
  *  - full_scale, the greatest sample that a surveyed site may have, is 1 to 4095 grey levels.
  *  - A mask has a code for each site: 0 surveyed (its sample counts), 1 gap (nothing was seen there), 2 defect (found
- *    bad), 3 filled (a defect that repair gave a sample). Only samples and sums at code 0 are read for a figure, a
- *    verdict or a refusal; at any other code they may be any number. To tip_shading_recode a site is surveyed where its
- *    old or its new code is 0.
+ *    bad), 3 filled (a defect that repair gave a sample). Only samples, and numbers of a stack, at code 0 are read for
+ *    a figure, a verdict or a refusal; at any other code they may be any number. To tip_shading_recode a site is
+ *    surveyed where its old or its new code is 0.
+ *  - A stack is a count of frames and, for each site, four numbers of its samples in them: their sum, the sum of their
+ *    squares, the least and the greatest. See stacks of frames, below.
+ *  - The spread of a site of a stack is its greatest sample less its least, in grey levels. A surveyed site is blinking
+ *    where its spread is at least the number that the caller asks for.
  *  - A plane is the sites of one row parity and one column parity. There are four, each width / 2 by height / 2:
  *    (0,0), (0,1), (1,0), (1,1), the row's parity first.
  *  - A block is 16 columns and 12 rows of a plane, a centre the middle 32 columns and 24 rows of one. A table has for
@@ -80,9 +84,10 @@
  *    1   a side is odd or not in 2..128
  *    2   the full scale is not in 1..4095
  *    3   another parameter is out of range: black level above full scale, threshold above 4095, Bayer order above 3,
- *        frame count above 100 (or 0 in the stack variance and pattern noise), a limit of shading not in 1..16, a site
- *        to recode outside the window. In photon transfer: the list is empty or has more than 64 points, a point of it,
- *        chosen or not, is out of limits, or first and last are outside the list or reversed
+ *        frame count above 100 (or 0 in the stack variance, blinking sites and pattern noise), a spread not in 1..4095,
+ *        a limit of shading not in 1..16, a site to recode outside the window. In photon transfer: the list is empty or
+ *        has more than 64 points, a point of it, chosen or not, is out of limits, or first and last are outside the
+ *        list or reversed
  *    4   a lent buffer's length is not exactly the one needed
  *    5   a mask code is above 3; in tip_shading_recode the site's old or new one
  *    6   a surveyed sample is above full scale; in tip_shading_recode the site's, where its old or its new code is 0.
@@ -96,8 +101,9 @@
  *        of 48
  *   10   T, total - black_level * count, is not above 0: of Gr in colour ratios; in colour shading of Gr, or for B/Gb
  *        of Gb, in the block or at the centre, or of R, or for B/Gb of B, at the centre
- *   11   a stack's sums cannot come from its frame count; in colour shading a count of the table is above its sites, or
- *        a total above count * full scale
+ *   11   a stack cannot come from its frame count: stacks of frames, below, says when; in pattern noise a sum is above
+ *        frame count * full scale; in colour shading a count of the table is above its sites, or a total above count *
+ *        full scale
  *   12   a frame is offered to a stack of 100
  *   13   photon transfer, and all chosen means are equal
  *   14   photon transfer, and numerator or denominator is 2^53 or more in size
@@ -228,68 +234,151 @@ uint64_t tip_dark_level(size_t width, size_t height, uint64_t full_scale, uint64
                         uint64_t *place, uint64_t *over, int64_t *numerator, uint64_t *denominator);
 
 /*
- * Adds a frame to a stack. The caller lends a sum and a sum of squares for each site, all 0 at first, and keeps the
- * count of frames. At surveyed sites the sample is added to the sum and its square to the sum of squares; all other
- * sites' sums stay, and are not read. With one window, mask and full scale throughout, accepted frames give the same
- * sums in any order.
+ * Stacks of frames: up to 100 frames of one window, mask and full scale, of which only some numbers are kept. Three
+ * calls share one stack; pattern noise takes its sums alone.
+ *
+ * A stack. The count of its frames, and four numbers for each site, in four buffers of width * height each:
+ *
+ *   sums       the sum of the site's samples, grey levels
+ *   squares    the sum of their squares, grey levels squared
+ *   least      the least of them, grey levels
+ *   greatest   the greatest of them, grey levels
+ *
+ * All four are 0 while no frame is in. At a site that is not surveyed (mask code 1 to 3) they are never read and never
+ * changed.
+ *
+ * Whose it is. The caller owns the four buffers, keeps the count, and lends them: tip_stack_add writes the buffers and
+ * answers the new count, tip_stack_variance and tip_blinking_sites only read them.
+ *
+ * Refusal 11. With k the count of frames, a stack as lent is impossible where at some surveyed site
+ *
+ *   sum > k * full_scale, square > k * full_scale * full_scale, or k * square < sum * sum;
+ *   least > greatest, or greatest > full_scale;
+ *   sum < k * least, or sum > k * greatest;
+ *   k is 0, and least or greatest is above 0.
+ *
+ * It is the same in all three calls, and its place is 0. A stack that tip_stack_add has built from zeros, with one
+ * window, mask and full scale, never gets it. It does not tell every stack that no frames can give.
+ */
+
+/*
+ * Adds a frame to a stack. At a surveyed site (mask code 0) the sample is added to the sum and its square to the sum of
+ * squares. Where no frame was in, the sample becomes both least and greatest; later least becomes the lesser of itself
+ * and the sample, greatest the greater. With one window, mask and full scale throughout, accepted frames give the same
+ * stack in any order.
+ *
+ * sums, squares, least and greatest are written: none of them may overlap another buffer, and no other call may read
+ * them meanwhile.
  *
  *   full_scale   grey levels, 1 to 4095
  *   frames       how many frames are in the stack before the call: 0 to 99
  *   mask         width * height codes, only read: 0 surveyed, 1 gap, 2 defect, 3 filled
  *   frame        width * height samples, only read; a sample at any code but 0 may be any number, and changes nothing
- *   sums         width * height sums, grey levels, written where the call is accepted
- *   squares      width * height sums of squares, grey levels squared, written where the call is accepted
+ *   sums         width * height sums, grey levels; written at surveyed sites where the call is accepted
+ *   squares      width * height sums of squares, grey levels squared, likewise
+ *   least        width * height least samples, grey levels, likewise
+ *   greatest     width * height greatest samples, grey levels, likewise
  *   place        written: the first offending site for 5 and 6, else 0
  *   over         written: for 6 how many surveyed samples are above full_scale, 1 to width * height; else 0
  *   count        written: frames + 1; on a refusal 0, and the stack still has its frames
  *
- * Refusals, in the order tested: 1; 2; 3 (frames above 100); 4 (mask, frame, sums or squares); 5; 6; 11 (at a surveyed
- * site, on the sums as lent: sum above frames * full_scale, sum of squares above frames * full_scale * full_scale, or
- * frames * sum of squares below the square of the sum); 12 (frames is 100).
+ * Refusals, in the order tested: 1; 2; 3 (frames above 100); 4 (mask, frame, sums, squares, least or greatest); 5; 6;
+ * 11 (the stack as lent is impossible: see above); 12 (frames is 100). With no surveyed site a frame is accepted.
  *
  *   const uint8_t mask[4] = {0, 0, 0, 1};
  *   const uint16_t frame[4] = {100, 101, 102, 65535};
  *   uint32_t sums[4] = {0}, squares[4] = {0};
+ *   uint16_t least[4] = {0}, greatest[4] = {0};
  *   uint64_t place, over, count;
- *   tip_stack_add(2, 2, 1023, 0, mask, 4, frame, 4, sums, 4, squares, 4, &place, &over, &count);
- *                                       gives 0, count is 1, sums 100 101 102 0, squares 10000 10201 10404 0
+ *   tip_stack_add(2, 2, 1023, 0, mask, 4, frame, 4, sums, 4, squares, 4, least, 4, greatest, 4, &place, &over, &count);
+ *                                       gives 0, count is 1, sums 100 101 102 0, squares 10000 10201 10404 0, least and
+ *                                       greatest 100 101 102 0
  */
 uint64_t tip_stack_add(size_t width, size_t height, uint64_t full_scale, uint64_t frames,
                        const uint8_t *mask, size_t mask_len,
                        const uint16_t *frame, size_t frame_len,
                        uint32_t *sums, size_t sums_len,
                        uint32_t *squares, size_t squares_len,
+                       uint16_t *least, size_t least_len,
+                       uint16_t *greatest, size_t greatest_len,
                        uint64_t *place, uint64_t *over, uint64_t *count);
 
 /*
- * The variance of a stack, in grey levels squared, from the sums and sums of squares that tip_stack_add has built.
+ * The variance of a stack, in grey levels squared, from the sums and sums of squares. least and greatest are judged, by
+ * 4 and 11, and change no figure.
  *
  *   full_scale    grey levels, 1 to 4095
  *   frames        how many frames are in the stack: 2 to 100
  *   mask          width * height codes, only read: 0 surveyed, 1 gap, 2 defect, 3 filled
  *   sums          width * height sums, grey levels, only read; at any code but 0 any number, and changes nothing
  *   squares       width * height sums of squares, grey levels squared, likewise
+ *   least         width * height least samples, grey levels, likewise
+ *   greatest      width * height greatest samples, grey levels, likewise
  *   place         written: the first offending site for 5, else 0
  *   numerator     written: the sum of frames * square - sum * sum over the n surveyed sites (mask code 0), at most n
  *                 times the square of frames * full_scale, so below 2^53 and exact as a double, as denominator is
  *   denominator   written: n * frames * frames
  *   variance      written: numerator / denominator, rounded once, in grey levels squared
  *
- * Refusals, in the order tested: 1; 2; 3 (frames is 0 or above 100); 4 (mask, sums or squares); 5; 7 (no surveyed site,
- * or frames is 1); 11 (as tip_stack_add).
+ * Refusals, in the order tested: 1; 2; 3 (frames is 0 or above 100); 4 (mask, sums, squares, least or greatest); 5;
+ * 7 (no surveyed site, or frames is 1); 11 (the stack is impossible: see above).
  *
  *   const uint8_t mask[4] = {0, 0, 0, 0};
  *   const uint32_t sums[4] = {201, 202, 204, 207}, squares[4] = {20201, 20402, 20808, 21425};
+ *   const uint16_t least[4] = {100, 101, 102, 103}, greatest[4] = {101, 101, 102, 104};
  *   uint64_t place, numerator, denominator;
  *   double variance;
- *   tip_stack_variance(2, 2, 1023, 2, mask, 4, sums, 4, squares, 4, &place, &numerator, &denominator, &variance);
+ *   tip_stack_variance(2, 2, 1023, 2, mask, 4, sums, 4, squares, 4, least, 4, greatest, 4,
+ *                      &place, &numerator, &denominator, &variance);
  *                                       gives 0, and 2 / 16, 0.125
  */
 uint64_t tip_stack_variance(size_t width, size_t height, uint64_t full_scale, uint64_t frames,
                             const uint8_t *mask, size_t mask_len,
                             const uint32_t *sums, size_t sums_len,
                             const uint32_t *squares, size_t squares_len,
+                            const uint16_t *least, size_t least_len,
+                            const uint16_t *greatest, size_t greatest_len,
                             uint64_t *place, uint64_t *numerator, uint64_t *denominator, double *variance);
+
+/*
+ * Counts the blinking sites of a stack: the surveyed sites (mask code 0) whose greatest sample less their least is at
+ * least spread. Such a site jumps between levels, while its mean may look healthy. After frames that tip_stack_add
+ * accepted it is a site at which two of them differ by spread or more.
+ *
+ *   full_scale   grey levels, 1 to 4095
+ *   frames       how many frames are in the stack: 1 to 100
+ *   spread       grey levels, 1 to 4095; above full_scale none is counted
+ *   mask         width * height codes, only read: 0 surveyed, 1 gap, 2 defect, 3 filled
+ *   sums         width * height sums, grey levels, only read; at any code but 0 any number, and changes nothing
+ *   squares      width * height sums of squares, grey levels squared, likewise
+ *   least        width * height least samples, grey levels, likewise
+ *   greatest     width * height greatest samples, grey levels, likewise
+ *   place        written: the first offending site for 5, else 0
+ *   count        written: how many surveyed sites are blinking, 0 to width * height
+ *
+ * Sums and squares are judged, by 4 and 11, and change no count. At a greater spread the count is never greater. No
+ * surveyed site gives the count 0, and so does a stack to which one frame was added: neither is refused.
+ *
+ * Refusals, in the order tested: 1; 2; 3 (spread not in 1..4095, or frames is 0 or above 100); 4 (mask, sums, squares,
+ * least or greatest); 5; 11 (the stack is impossible: see above). There is no 6, since no frame is taken, and no 7.
+ *
+ *   Two frames, site 0 at 100 and then at 900, the others at 500 both times:
+ *   const uint8_t mask[4] = {0, 0, 0, 0};
+ *   const uint32_t sums[4] = {1000, 1000, 1000, 1000}, squares[4] = {820000, 500000, 500000, 500000};
+ *   const uint16_t least[4] = {100, 500, 500, 500}, greatest[4] = {900, 500, 500, 500};
+ *   uint64_t place, count;
+ *   tip_blinking_sites(2, 2, 1023, 2, 800, mask, 4, sums, 4, squares, 4, least, 4, greatest, 4, &place, &count);
+ *                                       gives 0, and count is 1; at spread 1 it is 1 too, at spread 801 it is 0
+ *
+ *   With frames 0 it gives 3. The means of the four sites are equal.
+ */
+uint64_t tip_blinking_sites(size_t width, size_t height, uint64_t full_scale, uint64_t frames, uint64_t spread,
+                            const uint8_t *mask, size_t mask_len,
+                            const uint32_t *sums, size_t sums_len,
+                            const uint32_t *squares, size_t squares_len,
+                            const uint16_t *least, size_t least_len,
+                            const uint16_t *greatest, size_t greatest_len,
+                            uint64_t *place, uint64_t *count);
 
 /*
  * Vertical pattern noise of a stack: how much its columns differ, from the sums that tip_stack_add has built. Every
