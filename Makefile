@@ -19,7 +19,7 @@ includedir=$${prefix}/include
 libdir=$${prefix}/lib
 
 Name: tippovrain
-Description: A camera bench: noise, dark level, pattern, defects, colour, shading and gain from raw Bayer windows
+Description: A camera bench: noise, dark level, pattern, blinking sites, defects, colour, shading and gain from raw Bayer windows
 Version: $(VERSION)
 Cflags: -I$${includedir}
 Libs: -L$${libdir} -ltippovrain

@@ -16,6 +16,8 @@ pub enum Call {
     StackAdd,
     /// [`stack_variance`](crate::stack_variance)
     StackVariance,
+    /// [`blinking_sites`](crate::blinking_sites)
+    BlinkingSites,
     /// [`pattern_vertical`](crate::pattern_vertical)
     PatternVertical,
     /// [`pattern_horizontal`](crate::pattern_horizontal)
@@ -52,6 +54,7 @@ impl Call {
             DarkLevel => &[1, 2, 3, 4, 5, 6, 7],
             StackAdd => &[1, 2, 3, 4, 5, 6, 11, 12],
             StackVariance => &[1, 2, 3, 4, 5, 7, 11],
+            BlinkingSites => &[1, 2, 3, 4, 5, 11],
             PatternVertical | PatternHorizontal => &[1, 2, 3, 4, 5, 8, 9, 11],
             FindDefects => &[1, 2, 3, 4, 5, 6],
             Repair => &[1, 2, 4, 5, 6],
@@ -86,9 +89,9 @@ impl Call {
         match self {
             UnpackRaw10 | ShadingJudge | PhotonTransfer => None,
             Job if (20..=23).contains(&number) => Some("byte"),
-            PairFigures | DarkLevel | StackAdd | StackVariance | PatternVertical
-            | PatternHorizontal | FindDefects | Repair | DefectiveRows | DefectiveColumns
-            | ColourRatios | ShadingTable | ShadingRecode | Job => {
+            PairFigures | DarkLevel | StackAdd | StackVariance | BlinkingSites
+            | PatternVertical | PatternHorizontal | FindDefects | Repair | DefectiveRows
+            | DefectiveColumns | ColourRatios | ShadingTable | ShadingRecode | Job => {
                 matches!(number, 5 | 6).then_some("site")
             }
         }
@@ -126,6 +129,9 @@ fn of_window(call: Call, number: u64) -> &'static str {
         (3, StackAdd) => "the frame count is above 100",
         (3, StackVariance | PatternVertical | PatternHorizontal) => {
             "the frame count is not in 1 to 100"
+        }
+        (3, BlinkingSites) => {
+            "the spread is not in 1 to 4095 grey levels, or the frame count not in 1 to 100"
         }
         (4, UnpackRaw10) => {
             "a buffer has not exactly the length needed: width * height * 5 / 4 bytes, width * height samples"
@@ -180,7 +186,7 @@ fn of_figures(call: Call, number: u64) -> &'static str {
              or for B/Gb of B, at the centre, is not above 0 grey levels"
         }
         (10, _) => "the Gr total, black level taken off, is not above 0 grey levels",
-        (11, StackAdd | StackVariance) => IMPOSSIBLE_SUMS,
+        (11, StackAdd | StackVariance | BlinkingSites) => IMPOSSIBLE_STACK,
         (11, PatternVertical | PatternHorizontal) => {
             "a sum is above frames * full scale, in grey levels"
         }
@@ -193,9 +199,10 @@ fn of_figures(call: Call, number: u64) -> &'static str {
     }
 }
 
-const IMPOSSIBLE_SUMS: &str = "the sums cannot come from the frame count: at a surveyed site the sum is above \
-     frames * full scale, the sum of squares above frames * full scale squared, or frames * the sum of squares below \
-     the square of the sum";
+const IMPOSSIBLE_STACK: &str = "the stack cannot come from its frame count: at a surveyed site the sum is above \
+     frames * full scale, the sum of squares above frames * full scale squared, frames * the sum of squares below the \
+     square of the sum, the least sample above the greatest, the greatest above full scale, or the sum not in \
+     frames * least to frames * greatest; or no frame is in, and least or greatest is above 0";
 
 fn of_points(number: u64) -> &'static str {
     match number {

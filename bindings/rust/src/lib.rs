@@ -1,7 +1,8 @@
-//! Tippovrain: a camera bench. Figures of noise, dark level, pattern, defects, colour and colour shading from raw Bayer
-//! windows that the caller lends, and the gain from a list of such figures at several exposures. One safe function for
-//! each call of the proved C library; it allocates nothing, keeps nothing between two calls, prints nothing, and each
-//! call ends on any input. Only [`ShadingTable`] and the [`Shading`] it gives allocate: they own their lists.
+//! Tippovrain: a camera bench. Figures of noise, dark level, pattern, blinking sites, defects, colour and colour shading
+//! from raw Bayer windows that the caller lends, and the gain from a list of such figures at several exposures. One safe
+//! function for each call of the proved C library; it allocates nothing, keeps nothing between two calls, prints
+//! nothing, and each call ends on any input. Only [`Stack`], [`ShadingTable`] and the [`Shading`] that it gives allocate:
+//! they own their lists.
 //!
 //! # A first figure
 //!
@@ -24,7 +25,8 @@
 //! ```
 //!
 //! `examples/noise.rs` has the whole program; `examples/gain.rs` goes from frames at several exposures to a gain;
-//! `examples/shading.rs` judges the blocks of a window by its centre, and recodes sites.
+//! `examples/shading.rs` judges the blocks of a window by its centre, and recodes sites; `examples/blinking.rs` finds a
+//! site that jumps between two levels while its mean looks healthy.
 //!
 //! # Units and ranges
 //!
@@ -32,9 +34,13 @@
 //!   in row order: site `y * width + x` is in row `y`, column `x`.
 //! - **Sample**: a `u16`, in grey levels; 0 to full scale at a surveyed site, any number at any other.
 //! - **Full scale**: 1 to 4095 grey levels.
-//! - **Mask**: a code for each site: [`SURVEYED`], [`GAP`], [`DEFECT`] or [`FILLED`]. Only samples and sums at surveyed
-//!   sites are read for a figure, a verdict or a refusal. To [`shading_recode`] a site is surveyed where its old or its
-//!   new code is [`SURVEYED`].
+//! - **Mask**: a code for each site: [`SURVEYED`], [`GAP`], [`DEFECT`] or [`FILLED`]. Only samples, and numbers of a
+//!   stack, at surveyed sites are read for a figure, a verdict or a refusal. To [`shading_recode`] a site is surveyed
+//!   where its old or its new code is [`SURVEYED`].
+//! - **Stack**: a count of frames, 0 to 100, and for each site the sum of its samples, the sum of their squares, the
+//!   least and the greatest, [`Stack`].
+//! - **Spread** of a site of a stack: its greatest sample less its least, in grey levels. A surveyed site is **blinking**
+//!   where its spread is at least the number asked for.
 //! - **Planes**: a window has four, by the parity of row and column: (0,0), (0,1), (1,0), (1,1), the row's first.
 //! - **Block**: 16 columns and 12 rows of a plane; a **centre** is the middle 32 columns and 24 rows of one. A
 //!   [`ShadingTable`] has for each a total of samples and a count of sites.
@@ -100,5 +106,5 @@ pub use shading::{
     shading_judge, shading_recode, shading_table, BlockShading, Shading, ShadingRatio, ShadingTable,
 };
 pub use sites::{find_defects, repair};
-pub use stack::{stack_add, stack_variance};
+pub use stack::{blinking_sites, stack_add, stack_variance, Stack};
 pub use window::{Window, DEFECT, FILLED, GAP, SURVEYED};

@@ -84,14 +84,19 @@ calls! {
         answers(numerator: i64, denominator: u64);
     StackAdd: tip_stack_add(width: usize, height: usize, full_scale: u64, frames: u64)
         reads(mask: u8, frame: u16)
-        writes(sums: u32, squares: u32)
+        writes(sums: u32, squares: u32, least: u16, greatest: u16)
         tells(place, over)
         answers(count: u64);
     StackVariance: tip_stack_variance(width: usize, height: usize, full_scale: u64, frames: u64)
-        reads(mask: u8, sums: u32, squares: u32)
+        reads(mask: u8, sums: u32, squares: u32, least: u16, greatest: u16)
         writes()
         tells(place)
         answers(numerator: u64, denominator: u64, variance: f64);
+    BlinkingSites: tip_blinking_sites(width: usize, height: usize, full_scale: u64, frames: u64, spread: u64)
+        reads(mask: u8, sums: u32, squares: u32, least: u16, greatest: u16)
+        writes()
+        tells(place)
+        answers(count: u64);
     PatternVertical: tip_pattern_vertical(width: usize, height: usize, full_scale: u64, frames: u64)
         reads(mask: u8, sums: u32)
         writes()

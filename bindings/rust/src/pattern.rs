@@ -26,9 +26,9 @@ impl PatternNoise {
     }
 }
 
-/// Vertical pattern noise of a stack: how much its columns differ, from the sums that [`stack_add`](crate::stack_add)
-/// has built. Every mask code must be 0. With C the column totals of the sums, h the height, w the width and k the frame
-/// count:
+/// Vertical pattern noise of a stack: how much its columns differ, from the frames and the sums of a
+/// [`Stack`](crate::Stack), and nothing else of it. Every mask code must be 0. With C the column totals of the sums, h
+/// the height, w the width and k the frame count:
 ///
 /// - level squared: the sum of `(C[i] - C[i+1])^2`, i from 0 to w-2, over `(w-1) * (h * k * full_scale)^2`
 /// - Max: the greatest of `|10 * C[i] - S[i]|`, i from 5 to w-6, over `10 * h * k * full_scale`, where `S[i]` is the sum

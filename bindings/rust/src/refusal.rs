@@ -12,7 +12,7 @@ use std::fmt;
 /// |---|---|
 /// | 1 | a side is odd or not in 2..128 sites |
 /// | 2 | the full scale is not in 1..4095 grey levels |
-/// | 3 | another parameter is out of range: a black level above full scale (dark level, colour ratios, judging shading, job), a threshold above 4095 grey levels (finding defects), a frame count above 100 (stacks, pattern noise), or 0 (stack variance, pattern noise), a limit not in 1..16 (judging shading), a site outside the window (recoding). In photon transfer: the list is empty or has more than 64 points, a point of it, chosen or not, is out of limits, or first and last are outside the list or reversed |
+/// | 3 | another parameter is out of range: a black level above full scale (dark level, colour ratios, judging shading, job), a threshold above 4095 grey levels (finding defects), a frame count above 100 (stacks, pattern noise), or 0 (stack variance, blinking sites, pattern noise), a spread not in 1..4095 grey levels (blinking sites), a limit not in 1..16 (judging shading), a site outside the window (recoding). In photon transfer: the list is empty or has more than 64 points, a point of it, chosen or not, is out of limits, or first and last are outside the list or reversed |
 /// | 4 | a buffer's length is not exactly the one needed |
 /// | 5 | a mask code is above 3; in recoding the site's old or new one |
 /// | 6 | a surveyed sample is above full scale; in recoding the site's, where its old or its new code is 0. `over` says how many are |
@@ -20,7 +20,7 @@ use std::fmt;
 /// | 8 | pattern noise, and some mask code is not 0 |
 /// | 9 | the window is too small for the test (pattern noise, defective rows and columns, colour ratios, shading) |
 /// | 10 | T, total - black level * count, is not above 0: of Gr in colour ratios; in shading of Gr, or for B/Gb of Gb, in the block or at the centre, or of R, or for B/Gb of B, at the centre |
-/// | 11 | a stack's sums cannot come from its frame count (stacks, pattern noise); in shading a count of the table is above its sites, or a total above count * full scale |
+/// | 11 | a stack cannot come from its frame count ([`Stack`](crate::Stack) says when); in pattern noise a sum is above frame count * full scale; in shading a count of the table is above its sites, or a total above count * full scale |
 /// | 12 | a frame is offered to a stack of 100 |
 /// | 13 | photon transfer, and all chosen means are equal |
 /// | 14 | photon transfer, and numerator or denominator is 2^53 or more in size |

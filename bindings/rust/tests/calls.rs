@@ -5,6 +5,11 @@ use std::fmt::Debug;
 use tippovrain::*;
 
 const SMALL: Window = window(2, 2);
+/// Full scale 0, which is refused with 2.
+const DULL: Window = Window {
+    full_scale: 0,
+    ..SMALL
+};
 
 const fn window(width: usize, height: usize) -> Window {
     Window {
@@ -128,12 +133,8 @@ fn pair() {
     let refuse = |window, mask: &[u8], second: &[u16], refusal| {
         assert_eq!(pair_figures(window, mask, &FIRST, second), refusal);
     };
-    let dull = Window {
-        full_scale: 0,
-        ..SMALL
-    };
-    refuse(Window { width: 3, ..dull }, &[], &[], refused(1, 0));
-    refuse(dull, &[], &[], refused(2, 0));
+    refuse(Window { width: 3, ..DULL }, &[], &[], refused(1, 0));
+    refuse(DULL, &[], &[], refused(2, 0));
     refuse(SMALL, &[0, 4, 0, 0], &SECOND[..3], refused(4, 0));
     refuse(SMALL, &[0, 4, 0, 0], &[1024; 4], refused(5, 1));
     refuse(SMALL, &[0, 1, 1, 1], &[1024; 4], above(0, 1));
@@ -194,72 +195,207 @@ fn dark() {
     });
 }
 
+/// What a stack holds at a site: the sum of its samples, that of their squares, the least and the greatest.
+type Held = (u32, u32, u16, u16);
+
+/// A stack of SMALL that holds something at one site, and 0 at all others.
+fn stack_at(site: usize, frames: u64, (sum, square, least, greatest): Held) -> Stack {
+    let mut stack = Stack::new(SMALL);
+    stack.frames = frames;
+    stack.sums[site] = sum;
+    stack.squares[site] = square;
+    stack.least[site] = least;
+    stack.greatest[site] = greatest;
+    stack
+}
+
 #[test]
 fn stack() {
-    let (refused, above) = (refused(Call::StackAdd), above(Call::StackAdd));
-    let no_variance = self::refused(Call::StackVariance);
     let mask = [0, 0, 0, GAP];
-    let frame = [100, 101, 102, 65535];
-    let (mut sums, mut squares) = ([0, 0, 0, 7], [0, 0, 0, 8]);
-    assert_eq!(
-        stack_variance(SMALL, 0, &mask, &sums, &squares),
-        no_variance(3, 0)
-    );
-    assert_eq!(
-        stack_add(SMALL, 0, &mask, &frame, &mut sums, &mut squares),
-        Ok(1)
-    );
-    assert_eq!(
-        (sums, squares),
-        ([100, 101, 102, 7], [10000, 10201, 10404, 8])
-    );
-    assert_eq!(
-        stack_variance(SMALL, 1, &mask, &sums, &squares),
-        no_variance(7, 0)
-    );
-
-    let lent = (sums, squares);
-    let mut add = |frames, frame: &[u16; 4], long: usize| {
-        stack_add(SMALL, frames, &mask, frame, &mut sums[..long], &mut squares)
+    let frames = [[100, 101, 102, 65535], [101, 101, 99, 0]];
+    // what is not surveyed may be impossible, and stays
+    let lent = stack_at(3, 0, (7, 8, 10, 9));
+    let mut stack = lent.clone();
+    assert_eq!(stack_add(SMALL, &mask, &frames[0], &mut stack), Ok(1));
+    let first = Stack {
+        frames: 1,
+        sums: vec![100, 101, 102, 7],
+        squares: vec![10000, 10201, 10404, 8],
+        least: vec![100, 101, 102, 10],
+        greatest: vec![100, 101, 102, 9],
     };
-    assert_eq!(add(101, &frame, 4), refused(3, 0));
-    assert_eq!(add(1, &frame, 3), refused(4, 0));
-    assert_eq!(add(1, &[100, 1024, 1024, 65535], 4), above(1, 2));
-    assert_eq!(add(0, &frame, 4), refused(11, 0));
-    assert_eq!(add(100, &frame, 4), refused(12, 0));
-    assert_eq!(
-        stack_add(SMALL, 1, &mask, &frame, &mut sums, &mut squares[..3]),
-        refused(4, 0)
-    );
-    assert_eq!((sums, squares), lent);
+    assert_eq!(stack, first);
+    assert_eq!(blinking_sites(SMALL, 1, &mask, &stack), Ok(0));
+    assert_eq!(stack_add(SMALL, &mask, &frames[1], &mut stack), Ok(2));
+    let both = Stack {
+        frames: 2,
+        sums: vec![201, 202, 201, 7],
+        squares: vec![20201, 20402, 20205, 8],
+        least: vec![100, 101, 99, 10],
+        greatest: vec![101, 101, 102, 9],
+    };
+    assert_eq!(stack, both);
+    let mut turned = lent;
+    for frame in frames.iter().rev() {
+        stack_add(SMALL, &mask, frame, &mut turned).unwrap();
+    }
+    assert_eq!(turned, both);
 
-    assert_eq!(
-        stack_add(
-            SMALL,
-            1,
-            &mask,
-            &[101, 101, 103, 0],
-            &mut sums,
-            &mut squares
-        ),
-        Ok(2)
-    );
     let variance = Variance {
-        exact: unsigned(2, 12),
-        figure: 2.0 / 12.0,
+        exact: unsigned(10, 12),
+        figure: 10.0 / 12.0,
     };
-    assert_eq!(
-        stack_variance(SMALL, 2, &mask, &sums, &squares),
-        Ok(variance)
-    );
-    squares[0] = 0;
-    assert_eq!(
-        stack_variance(SMALL, 2, &mask, &sums, &squares),
-        no_variance(11, 0)
-    );
+    assert_eq!(stack_variance(SMALL, &mask, &both), Ok(variance));
+    for (spread, count) in [(1, 2), (2, 1), (3, 1), (4, 0), (4095, 0)] {
+        assert_eq!(blinking_sites(SMALL, spread, &mask, &both), Ok(count));
+    }
+    // no surveyed site is no refusal
+    assert_eq!(blinking_sites(SMALL, 1, &[GAP; 4], &both), Ok(0));
     counts_over(Call::StackAdd, 4, |mask, frame| {
-        stack_add(SMALL, 0, mask, frame, &mut [0; 4], &mut [0; 4])
+        stack_add(SMALL, mask, frame, &mut Stack::new(SMALL))
     });
+}
+
+/// Each with all right that is tested before it, and something wrong that is tested after it.
+#[test]
+fn stack_refused() {
+    let (refused, above) = (refused(Call::StackAdd), above(Call::StackAdd));
+    let add = |window, frames, mask: &[u8], frame: &[u16], refusal| {
+        let lent = stack_at(0, frames, (0, 0, 0, 1024));
+        let mut stack = lent.clone();
+        assert_eq!(stack_add(window, mask, frame, &mut stack), refusal);
+        assert_eq!(stack, lent);
+    };
+    add(Window { width: 3, ..DULL }, 101, &[], &[], refused(1, 0));
+    add(DULL, 101, &[], &[], refused(2, 0));
+    add(SMALL, 101, &[], &[], refused(3, 0));
+    add(SMALL, 100, &[0, 4, 0, 0], &[], refused(4, 0));
+    add(SMALL, 100, &[], &[1024; 4], refused(4, 0));
+    add(SMALL, 100, &[0, 4, 0, 0], &[1024; 4], refused(5, 1));
+    add(SMALL, 100, &[0; 4], &[0, 1024, 1024, 0], above(1, 2));
+    add(SMALL, 100, &[0; 4], &[0; 4], refused(11, 0));
+    add(SMALL, 100, &[GAP, 0, 0, 0], &[0; 4], refused(12, 0));
+    // what is offered to 99 frames is the hundredth
+    let mut stack = stack_at(0, 99, (0, 0, 0, 0));
+    assert_eq!(stack_add(SMALL, &[0; 4], &[0; 4], &mut stack), Ok(100));
+}
+
+#[test]
+fn stack_variance_refused() {
+    let refused = refused(Call::StackVariance);
+    let vary = |window, frames, mask: &[u8], refusal| {
+        let stack = stack_at(0, frames, (0, 0, 0, 1024));
+        assert_eq!(stack_variance(window, mask, &stack), refusal);
+    };
+    vary(Window { height: 3, ..DULL }, 0, &[], refused(1, 0));
+    vary(DULL, 0, &[], refused(2, 0));
+    vary(SMALL, 0, &[], refused(3, 0));
+    vary(SMALL, 101, &[], refused(3, 0));
+    vary(SMALL, 1, &[], refused(4, 0));
+    vary(SMALL, 1, &[0, 0, 0, 4], refused(5, 3));
+    vary(SMALL, 1, &[0; 4], refused(7, 0));
+    vary(SMALL, 2, &[GAP; 4], refused(7, 0));
+    vary(SMALL, 2, &[0; 4], refused(11, 0));
+}
+
+#[test]
+fn blinking_refused() {
+    let refused = refused(Call::BlinkingSites);
+    let count = |window, frames, spread, mask: &[u8], refusal| {
+        let stack = stack_at(0, frames, (0, 0, 0, 1024));
+        assert_eq!(blinking_sites(window, spread, mask, &stack), refusal);
+    };
+    count(Window { width: 130, ..DULL }, 0, 0, &[], refused(1, 0));
+    count(DULL, 0, 0, &[], refused(2, 0));
+    for (frames, spread) in [(0, 1), (101, 1), (1, 0), (1, 4096), (1, u64::MAX)] {
+        count(SMALL, frames, spread, &[], refused(3, 0));
+    }
+    for (frames, spread) in [(1, 1), (100, 4095)] {
+        count(SMALL, frames, spread, &[], refused(4, 0));
+        count(SMALL, frames, spread, &[0, 0, 4, 4], refused(5, 2));
+        count(SMALL, frames, spread, &[0; 4], refused(11, 0));
+        count(SMALL, frames, spread, &[GAP, 0, 0, 0], Ok(0));
+    }
+}
+
+/// The numbers with which adding a black frame, the variance and the count of blinking sites refuse a stack, 0 where
+/// they accept it.
+fn verdicts(window: Window, mask: &[u8], stack: &Stack) -> [u64; 3] {
+    let black = vec![0; mask.len()];
+    let mut added = stack.clone();
+    let add = stack_add(window, mask, &black, &mut added).map(|_| ());
+    assert_eq!(add.is_err(), added == *stack);
+    let variance = stack_variance(window, mask, stack).map(|_| ());
+    let blinking = blinking_sites(window, 4095, mask, stack).map(|_| ());
+    [add, variance, blinking].map(|answer| answer.map_or_else(|refusal| refusal.number, |()| 0))
+}
+
+/// Each arm of 11 that decides alone, at full scale 1: so many frames, an impossible stack, and a possible one a unit
+/// or two from it.
+const IMPOSSIBLE: [(u64, Held, Held); 11] = [
+    (0, (0, 1, 0, 0), (0, 0, 0, 0)), // squares
+    (0, (0, 0, 0, 1), (0, 0, 0, 0)), // greatest, with no frame in
+    (1, (0, 0, 0, 2), (0, 0, 0, 1)), // greatest above full scale
+    (1, (0, 0, 1, 1), (0, 0, 0, 1)), // sum below frames * least
+    (1, (1, 1, 0, 0), (1, 1, 0, 1)), // sum above frames * greatest
+    (1, (1, 0, 0, 1), (1, 1, 0, 1)), // frames * squares below the square of the sum
+    (2, (0, 3, 0, 0), (0, 2, 0, 0)), // the same with two frames in
+    (2, (0, 0, 0, 2), (0, 0, 0, 1)),
+    (2, (1, 1, 1, 1), (2, 2, 1, 1)),
+    (2, (1, 1, 0, 0), (1, 1, 0, 1)),
+    (2, (2, 1, 0, 1), (2, 2, 0, 1)),
+];
+
+/// 11 in the three calls, at each surveyed site and at no gap.
+#[test]
+fn impossible_stacks() {
+    let dim = Window {
+        full_scale: 1,
+        ..SMALL
+    };
+    for (frames, impossible, possible) in IMPOSSIBLE {
+        // no frame in is 3 in the variance and the count, one frame in is 7 in the variance
+        let (accepted, refused) = match frames {
+            0 => ([0, 3, 3], [11, 3, 3]),
+            1 => ([0, 7, 0], [11, 7, 11]),
+            _ => ([0, 0, 0], [11, 11, 11]),
+        };
+        for site in 0..4 {
+            let stack = stack_at(site, frames, impossible);
+            let mut mask = [SURVEYED; 4];
+            assert_eq!(verdicts(dim, &mask, &stack), refused);
+            let near = stack_at(site, frames, possible);
+            assert_eq!(verdicts(dim, &mask, &near), accepted);
+            mask[site] = GAP;
+            assert_eq!(verdicts(dim, &mask, &stack), accepted);
+        }
+    }
+}
+
+/// Each list is asked for its length; a stack of any window is made, and refused where the window is.
+#[test]
+fn stack_lists() {
+    let shorten: [fn(&mut Stack); 4] = [
+        |stack| stack.sums.truncate(3),
+        |stack| stack.squares.truncate(3),
+        |stack| stack.least.truncate(3),
+        |stack| stack.greatest.truncate(3),
+    ];
+    for shorten in shorten {
+        let mut stack = stack_at(0, 2, (0, 0, 0, 0));
+        shorten(&mut stack);
+        assert_eq!(verdicts(SMALL, &[0; 4], &stack), [4; 3]);
+    }
+    for side in [0, 3, 130, usize::MAX] {
+        for window in [window(side, 2), window(2, side)] {
+            assert_eq!(verdicts(window, &[], &Stack::new(window)), [1; 3]);
+        }
+    }
+    let great = window(128, 128);
+    let mut stack = Stack::new(great);
+    assert_eq!(verdicts(great, &[0; 128 * 128], &stack), [0, 3, 3]);
+    stack.frames = 2;
+    assert_eq!(verdicts(great, &[0; 128 * 128], &stack), [0; 3]);
 }
 
 type Pattern = fn(Window, u64, &[u8], &[u32]) -> Result<PatternNoise, Refusal>;
@@ -1050,12 +1186,13 @@ fn gain_refused() {
     assert_eq!(photon_transfer(&ends, 0, 63), refused(14, 0));
 }
 
-const CALLS: [Call; 17] = [
+const CALLS: [Call; 18] = [
     Call::UnpackRaw10,
     Call::PairFigures,
     Call::DarkLevel,
     Call::StackAdd,
     Call::StackVariance,
+    Call::BlinkingSites,
     Call::PatternVertical,
     Call::PatternHorizontal,
     Call::FindDefects,
@@ -1115,6 +1252,7 @@ fn numbers_are_the_headers() {
         ("tip_dark_level", Call::DarkLevel),
         ("tip_stack_add", Call::StackAdd),
         ("tip_stack_variance", Call::StackVariance),
+        ("tip_blinking_sites", Call::BlinkingSites),
         ("tip_pattern_vertical", Call::PatternVertical),
         ("tip_find_defects", Call::FindDefects),
         ("tip_repair", Call::Repair),
@@ -1162,6 +1300,7 @@ fn words_of_the_call() {
         (Call::FindDefects, 3, "the threshold is above 4095"),
         (Call::StackAdd, 3, "the frame count is above 100"),
         (Call::StackVariance, 3, "the frame count is not in 1"),
+        (Call::BlinkingSites, 3, "the spread is not in 1 to 4095"),
         (Call::ShadingRecode, 3, "the site is outside"),
         (
             Call::ShadingJudge,
@@ -1185,7 +1324,9 @@ fn words_of_the_call() {
             10,
             "black level taken off, the total of Gr, or",
         ),
-        (Call::StackAdd, 11, "the sums cannot come from"),
+        (Call::StackAdd, 11, "the stack cannot come from"),
+        (Call::StackVariance, 11, "the stack cannot come from"),
+        (Call::BlinkingSites, 11, "the stack cannot come from"),
         (Call::PatternHorizontal, 11, "a sum is above"),
         (Call::ShadingJudge, 11, "a count is above its sites"),
         (Call::PhotonTransfer, 13, "all chosen means are equal"),
@@ -1225,6 +1366,8 @@ fn refusals_printed() {
     begins(Call::Job, 22, 0, "refused 22 at byte 3: the length of");
     begins(Call::Job, 24, 0, "refused 24: a side of the stream's");
     begins(Call::StackAdd, 12, 0, "refused 12: the stack is full");
+    begins(Call::BlinkingSites, 5, 0, "refused 5 at site 3: a mask");
+    begins(Call::BlinkingSites, 11, 0, "refused 11: the stack cannot");
     begins(
         Call::ShadingTable,
         6,
