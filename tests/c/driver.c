@@ -138,7 +138,7 @@ static void unpack_raw10(void)
 
 /* ---- windows that the calls with a mask are tried on: 2 x 2, and the greatest ---- */
 
-static const uint8_t all_surveyed[4] = {0, 0, 0, 0}, one_surveyed[4] = {1, 2, 3, 0}, bad_code[4] = {0, 0, 4, 0};
+static const uint8_t all_surveyed[4] = {0, 0, 0, 0}, one_surveyed[4] = {1, 2, 3, 0}, none_surveyed[4] = {1, 2, 3, 1}, bad_code[4] = {0, 0, 4, 0};
 static const uint16_t k1_first[4] = {100, 101, 102, 103}, k1_second[4] = {101, 101, 102, 104};
 
 /* Two surveyed sites above full scale 1023, beside a gap the first of them at 2, beside a defect and a filled site at 1; what is not surveyed holds more. */
@@ -220,7 +220,6 @@ static int has_dark_level(uint64_t black_level, const uint8_t mask[4], const uin
 static void dark_level(void)
 {
     static const uint16_t k5[4] = {60, 64, 64, 64}, one_above[4] = {60, 1024, 64, 64}, three_above[4] = {60, 1024, 1024, 1024};
-    static const uint8_t none_surveyed[4] = {1, 2, 3, 1};
 
     check("tip_dark_level", "K5", has_dark_level(64, all_surveyed, k5, 0, 0, 0, -4, 4));
     check("tip_dark_level", "K1's first frame", has_dark_level(64, all_surveyed, k1_first, 0, 0, 0, 150, 4));
@@ -234,61 +233,268 @@ static void dark_level(void)
     check("tip_dark_level", "refused 7", has_dark_level(64, none_surveyed, above_defects, 7, 0, 0, 0, 0));
 }
 
-/* ---- tip_stack_add, tip_stack_variance ---- */
+/* ---- tip_stack_add, tip_stack_variance, tip_blinking_sites ---- */
 
-static uint32_t stack_sums[4], stack_squares[4];
+/* What a 2 x 2 stack holds for each site, and an element over. */
+struct stack {
+    uint32_t sums[5], squares[5];
+    uint16_t least[5], greatest[5];
+};
 
-static int adds(uint64_t frames, const uint8_t mask[4], const uint16_t frame[4], uint64_t number, uint64_t place, uint64_t over, uint64_t count)
+static int same_stack(const struct stack *one, const struct stack *other)
 {
-    uint64_t at = UNWRITTEN, above = UNWRITTEN, got = UNWRITTEN;
-    return tip_stack_add(2, 2, 1023, frames, mask, 4, frame, 4, stack_sums, 4, stack_squares, 4, &at, &above, &got) == number
-        && at == place && above == over && got == count;
-}
-
-static int stack_holds(const uint32_t sums[4], const uint32_t squares[4])
-{
-    for (size_t i = 0; i < 4; i++)
-        if (stack_sums[i] != sums[i] || stack_squares[i] != squares[i]) return 0;
+    for (size_t i = 0; i < 5; i++)
+        if (one->sums[i] != other->sums[i] || one->squares[i] != other->squares[i]
+            || one->least[i] != other->least[i] || one->greatest[i] != other->greatest[i]) return 0;
     return 1;
 }
 
-static int has_stack_variance(size_t side, uint64_t full_scale, uint64_t frames,
-                              const uint8_t *mask, const uint32_t *sums, const uint32_t *squares,
-                              uint64_t number, uint64_t numerator, uint64_t denominator, double variance)
+static const struct stack no_frames;
+
+/* Of one frame, k1_first, and of both; at a gap at site 3 what no frames give, and it stays. */
+static const struct stack
+    k1_one = {{100, 101, 102, 103}, {10000, 10201, 10404, 10609}, {100, 101, 102, 103}, {100, 101, 102, 103}},
+    k1_both = {{201, 202, 204, 207}, {20201, 20402, 20808, 21425}, {100, 101, 102, 103}, {101, 101, 102, 104}},
+    before_gap = {{0, 0, 0, 4294967295u}, {0, 0, 0, 7}, {0, 0, 0, 65535}, {0, 0, 0, 1}},
+    beside_gap = {{100, 101, 102, 4294967295u}, {10000, 10201, 10404, 7}, {100, 101, 102, 65535}, {100, 101, 102, 1}};
+static const uint8_t last_gap[4] = {0, 0, 0, 1};
+
+/* Site 0 blinks: at 100 in the first frame and at 900 in the second, the others at 500 in both. */
+static const uint16_t low[4] = {100, 500, 500, 500}, high[4] = {900, 500, 500, 500};
+static const struct stack blinking = {{1000, 1000, 1000, 1000}, {820000, 500000, 500000, 500000}, {100, 500, 500, 500}, {900, 500, 500, 500}};
+
+/* Where the least is 0 it leaves a stack's numbers as they are. */
+static const uint16_t black[4];
+
+/* Whether a frame offered to a stack gets an answer, and leaves the stack that it should. */
+static int adds(uint64_t full_scale, uint64_t frames, const uint8_t mask[4], const uint16_t frame[4], const struct stack *before,
+                uint64_t number, uint64_t place, uint64_t over, const struct stack *after)
+{
+    uint64_t at = UNWRITTEN, above = UNWRITTEN, count = UNWRITTEN;
+    struct stack of = *before;
+    return tip_stack_add(2, 2, full_scale, frames, mask, 4, frame, 4, of.sums, 4, of.squares, 4, of.least, 4, of.greatest, 4,
+                         &at, &above, &count) == number
+        && at == place && above == over && count == (number ? 0 : frames + 1) && same_stack(&of, after);
+}
+
+/* A hundred frames in turn, low and high; then one more is refused, with 12 at 100 and with 3 at 101. */
+static int adds_a_hundred(void)
+{
+    uint64_t at, above, count = 0;
+    struct stack of = no_frames;
+    for (uint64_t k = 0; k < 100; k++)
+        if (tip_stack_add(2, 2, 1023, k, all_surveyed, 4, k % 2 ? high : low, 4, of.sums, 4, of.squares, 4, of.least, 4, of.greatest, 4,
+                          &at, &above, &count) != 0 || count != k + 1) return 0;
+    return of.sums[0] == 50000 && of.sums[3] == 50000 && of.squares[0] == 41000000 && of.least[0] == 100 && of.greatest[0] == 900
+        && adds(1023, 100, all_surveyed, low, &of, 12, 0, 0, &of) && adds(1023, 101, all_surveyed, low, &of, 3, 0, 0, &of);
+}
+
+static int has_stack_variance(size_t side, uint64_t full_scale, uint64_t frames, const uint8_t *mask,
+                              const uint32_t *sums, const uint32_t *squares, const uint16_t *least, const uint16_t *greatest,
+                              uint64_t number, uint64_t place, uint64_t numerator, uint64_t denominator, double variance)
 {
     uint64_t at = UNWRITTEN, got_numerator = UNWRITTEN, got_denominator = UNWRITTEN;
     double got = UNWRITTEN;
     size_t sites = side * side;
-    return tip_stack_variance(side, side, full_scale, frames, mask, sites, sums, sites, squares, sites,
+    return tip_stack_variance(side, side, full_scale, frames, mask, sites, sums, sites, squares, sites, least, sites, greatest, sites,
                               &at, &got_numerator, &got_denominator, &got) == number
-        && at == 0 && got_numerator == numerator && got_denominator == denominator && bits(got) == bits(variance);
+        && at == place && got_numerator == numerator && got_denominator == denominator && bits(got) == bits(variance);
 }
 
-static void stack(void)
+static int varies(uint64_t full_scale, uint64_t frames, const uint8_t mask[4], const struct stack *of,
+                  uint64_t number, uint64_t place, uint64_t numerator, uint64_t denominator, double variance)
 {
-    static const uint32_t first_sums[4] = {100, 101, 102, 103}, first_squares[4] = {10000, 10201, 10404, 10609};
-    static const uint32_t both_sums[4] = {201, 202, 204, 207}, both_squares[4] = {20201, 20402, 20808, 21425};
+    return has_stack_variance(2, full_scale, frames, mask, of->sums, of->squares, of->least, of->greatest,
+                              number, place, numerator, denominator, variance);
+}
+
+static int blinks(uint64_t full_scale, uint64_t frames, uint64_t spread, const uint8_t mask[4], const struct stack *of,
+                  uint64_t number, uint64_t place, uint64_t count)
+{
+    uint64_t at = UNWRITTEN, got = UNWRITTEN;
+    return tip_blinking_sites(2, 2, full_scale, frames, spread, mask, 4, of->sums, 4, of->squares, 4, of->least, 4, of->greatest, 4,
+                              &at, &got) == number
+        && at == place && got == count;
+}
+
+static void stack_add(void)
+{
+    static const struct stack low_one = {{100, 500, 500, 500}, {10000, 250000, 250000, 250000}, {100, 500, 500, 500}, {100, 500, 500, 500}};
+    static const struct stack high_one = {{900, 500, 500, 500}, {810000, 250000, 250000, 250000}, {900, 500, 500, 500}, {900, 500, 500, 500}};
+    const char *call = "tip_stack_add";
+
+    check(call, "the first frame", adds(1023, 0, all_surveyed, k1_first, &no_frames, 0, 0, 0, &k1_one));
+    check(call, "the second", adds(1023, 1, all_surveyed, k1_second, &k1_one, 0, 0, 0, &k1_both));
+    check(call, "low, then high", adds(1023, 1, all_surveyed, high, &low_one, 0, 0, 0, &blinking));
+    check(call, "high, then low", adds(1023, 1, all_surveyed, low, &high_one, 0, 0, 0, &blinking));
+    check(call, "what is at a gap stays", adds(1023, 0, last_gap, k1_first, &before_gap, 0, 0, 0, &beside_gap));
+    check(call, "a black frame, 99 in", adds(1023, 99, all_surveyed, black, &no_frames, 0, 0, 0, &no_frames));
+    check(call, "a hundred frames, and no more", adds_a_hundred());
+    check(call, "refused 2", adds(0, 101, bad_code, above_gap, &blinking, 2, 0, 0, &blinking));
+    check(call, "refused 3 at 101", adds(1023, 101, bad_code, above_gap, &blinking, 3, 0, 0, &blinking));
+    check(call, "refused 5 at 2", adds(1023, 0, bad_code, above_gap, &blinking, 5, 2, 0, &blinking));
+    check(call, "refused 6 at 1, 3 over", adds(1023, 0, all_surveyed, above_gap, &blinking, 6, 1, 3, &blinking));
+    check(call, "refused 6 at 2, 2 over, beside a gap", adds(1023, 0, gap_beside, above_gap, &blinking, 6, 2, 2, &blinking));
+    check(call, "refused 6 at 1, 2 over, beside a defect and a filled site",
+          adds(1023, 0, defects_beside, above_defects, &blinking, 6, 1, 2, &blinking));
+    check(call, "refused 11 with no frame in", adds(1023, 0, all_surveyed, k1_first, &k1_both, 11, 0, 0, &k1_both));
+    check(call, "refused 11 with 100 in, before 12", adds(1023, 100, all_surveyed, k1_first, &k1_both, 11, 0, 0, &k1_both));
+    check(call, "refused 12 at 100", adds(1023, 100, all_surveyed, black, &no_frames, 12, 0, 0, &no_frames));
+}
+
+static void stack_variance(void)
+{
     /* Sums of 0, squares as great as refusal 11 lets pass: the numerator is 16384 * (100 * 4095)^2, the greatest of all stacks. */
     static const uint32_t no_sums[128 * 128];
+    static const uint16_t all_zero[128 * 128];
     static uint32_t great_squares[128 * 128];
+    const char *call = "tip_stack_variance";
 
     for (size_t i = 0; i < COUNT(great_squares); i++) great_squares[i] = 100 * 4095 * 4095;
-    check("tip_stack_add", "the first frame", adds(0, all_surveyed, k1_first, 0, 0, 0, 1) && stack_holds(first_sums, first_squares));
-    check("tip_stack_add", "the second", adds(1, all_surveyed, k1_second, 0, 0, 0, 2) && stack_holds(both_sums, both_squares));
-    check("tip_stack_add", "refused 3 at 101", adds(101, all_surveyed, above_gap, 3, 0, 0, 0) && stack_holds(both_sums, both_squares));
-    check("tip_stack_add", "refused 5 at 2", adds(2, bad_code, above_gap, 5, 2, 0, 0) && stack_holds(both_sums, both_squares));
-    check("tip_stack_add", "refused 6 at 1, 3 over", adds(2, all_surveyed, above_gap, 6, 1, 3, 0) && stack_holds(both_sums, both_squares));
-    check("tip_stack_add", "refused 6 at 2, 2 over, beside a gap",
-          adds(2, gap_beside, above_gap, 6, 2, 2, 0) && stack_holds(both_sums, both_squares));
-    check("tip_stack_add", "refused 6 at 1, 2 over, beside a defect and a filled site",
-          adds(2, defects_beside, above_defects, 6, 1, 2, 0) && stack_holds(both_sums, both_squares));
-    check("tip_stack_add", "refused 11 with no frame in", adds(0, all_surveyed, k1_first, 11, 0, 0, 0) && stack_holds(both_sums, both_squares));
-    check("tip_stack_add", "refused 12 at 100", adds(100, all_surveyed, k1_first, 12, 0, 0, 0) && stack_holds(both_sums, both_squares));
-    check("tip_stack_variance", "two frames", has_stack_variance(2, 1023, 2, all_surveyed, stack_sums, stack_squares, 0, 2, 16, 0.125));
-    check("tip_stack_variance", "the greatest numerator",
-          has_stack_variance(128, 4095, 100, great_surveyed, no_sums, great_squares, 0, 2747437056000000, 163840000, 16769025.0));
-    check("tip_stack_variance", "refused 3", has_stack_variance(2, 1023, 0, all_surveyed, stack_sums, stack_squares, 3, 0, 0, 0.0));
-    check("tip_stack_variance", "refused 7", has_stack_variance(2, 1023, 1, all_surveyed, stack_sums, stack_squares, 7, 0, 0, 0.0));
+    check(call, "two frames", varies(1023, 2, all_surveyed, &k1_both, 0, 0, 2, 16, 0.125));
+    check(call, "a blinking site", varies(1023, 2, all_surveyed, &blinking, 0, 0, 640000, 16, 40000.0));
+    check(call, "the greatest numerator",
+          has_stack_variance(128, 4095, 100, great_surveyed, no_sums, great_squares, all_zero, all_zero, 0, 0, 2747437056000000, 163840000, 16769025.0));
+    check(call, "what is at a gap is not read", varies(1023, 2, last_gap, &before_gap, 0, 0, 0, 12, 0.0));
+    check(call, "refused 2", varies(4096, 0, bad_code, &k1_both, 2, 0, 0, 0, 0.0));
+    check(call, "refused 3 at 0", varies(1023, 0, bad_code, &k1_both, 3, 0, 0, 0, 0.0));
+    check(call, "refused 3 at 101", varies(1023, 101, bad_code, &k1_both, 3, 0, 0, 0, 0.0));
+    check(call, "refused 5 at 2", varies(1023, 1, bad_code, &k1_both, 5, 2, 0, 0, 0.0));
+    check(call, "refused 7, one frame in", varies(1023, 1, all_surveyed, &k1_both, 7, 0, 0, 0, 0.0));
+    check(call, "refused 7, no surveyed site", varies(1023, 2, none_surveyed, &k1_both, 7, 0, 0, 0, 0.0));
+    check(call, "refused 11 with 100 in", varies(1023, 100, all_surveyed, &k1_both, 11, 0, 0, 0, 0.0));
+}
+
+static void blinking_sites(void)
+{
+    /* From 0 to full scale 4095 at every site. */
+    static const struct stack widest = {{4095, 4095, 4095, 4095}, {16769025, 16769025, 16769025, 16769025}, {0}, {4095, 4095, 4095, 4095}};
+    static const uint8_t first_gap[4] = {1, 0, 0, 0};
+    const char *call = "tip_blinking_sites";
+
+    check(call, "one at spread 800", blinks(1023, 2, 800, all_surveyed, &blinking, 0, 0, 1));
+    check(call, "none at spread 801", blinks(1023, 2, 801, all_surveyed, &blinking, 0, 0, 0));
+    check(call, "one at spread 1", blinks(1023, 2, 1, all_surveyed, &blinking, 0, 0, 1));
+    check(call, "two at spread 1", blinks(1023, 2, 1, all_surveyed, &k1_both, 0, 0, 2));
+    check(call, "none of one frame", blinks(1023, 1, 1, all_surveyed, &k1_one, 0, 0, 0));
+    check(call, "all at spread 4095", blinks(4095, 2, 4095, all_surveyed, &widest, 0, 0, 4));
+    check(call, "a gap is not counted", blinks(1023, 2, 800, first_gap, &blinking, 0, 0, 0));
+    check(call, "a gap's least above its greatest", blinks(1023, 1, 1, last_gap, &beside_gap, 0, 0, 0));
+    check(call, "no surveyed site", blinks(1023, 100, 1, none_surveyed, &blinking, 0, 0, 0));
+    check(call, "refused 2", blinks(0, 0, 0, bad_code, &blinking, 2, 0, 0));
+    check(call, "refused 3, no frame in", blinks(1023, 0, 800, bad_code, &no_frames, 3, 0, 0));
+    check(call, "refused 3, 101 in", blinks(1023, 101, 800, bad_code, &blinking, 3, 0, 0));
+    check(call, "refused 3, spread 0", blinks(1023, 2, 0, bad_code, &blinking, 3, 0, 0));
+    check(call, "refused 3, spread 4096", blinks(1023, 2, 4096, bad_code, &blinking, 3, 0, 0));
+    check(call, "refused 3, spread UINT64_MAX", blinks(1023, 2, UINT64_MAX, bad_code, &blinking, 3, 0, 0));
+    check(call, "refused 5 at 2, spread 4095", blinks(1023, 1, 4095, bad_code, &blinking, 5, 2, 0));
+    check(call, "refused 11, one frame in", blinks(1023, 1, 800, all_surveyed, &k1_both, 11, 0, 0));
+    check(call, "refused 11, 100 in", blinks(1023, 100, 800, all_surveyed, &k1_both, 11, 0, 0));
+}
+
+/* A stack that holds four numbers at site 3, and 0 at the others. */
+static struct stack stack_of(const uint32_t held[4])
+{
+    struct stack of = no_frames;
+    of.sums[3] = held[0];
+    of.squares[3] = held[1];
+    of.least[3] = (uint16_t)held[2];
+    of.greatest[3] = (uint16_t)held[3];
+    return of;
+}
+
+static void impossible_stacks(void)
+{
+    /* At full scale 1: the arms of 11 that decide alone, each beside what passes. Sum, sum of squares, least, greatest. */
+    static const struct {
+        const char *name;
+        uint64_t frames;
+        uint32_t impossible[4], possible[4];
+    } arms[] = {
+        {"refused 11, no frame in, squares", 0, {0, 1, 0, 0}, {0, 0, 0, 0}},
+        {"refused 11, no frame in, greatest", 0, {0, 0, 0, 1}, {0, 0, 0, 0}},
+        {"refused 11, one in, squares", 1, {0, 2, 0, 0}, {0, 1, 0, 0}},
+        {"refused 11, one in, squares for the sum", 1, {1, 0, 0, 1}, {1, 1, 0, 1}},
+        {"refused 11, one in, greatest above full scale", 1, {0, 0, 0, 2}, {0, 0, 0, 1}},
+        {"refused 11, one in, sum below least", 1, {0, 0, 1, 1}, {0, 0, 0, 1}},
+        {"refused 11, one in, sum above greatest", 1, {1, 1, 0, 0}, {1, 1, 0, 1}},
+        {"refused 11, two in, squares", 2, {0, 3, 0, 0}, {0, 2, 0, 0}},
+        {"refused 11, two in, squares for the sum", 2, {2, 1, 0, 1}, {2, 2, 0, 1}},
+        {"refused 11, two in, greatest above full scale", 2, {0, 0, 0, 2}, {0, 0, 0, 1}},
+        {"refused 11, two in, sum below twice least", 2, {1, 1, 1, 1}, {1, 1, 0, 1}},
+        {"refused 11, two in, sum above twice greatest", 2, {1, 1, 0, 0}, {1, 1, 0, 1}},
+    };
+
+    for (size_t i = 0; i < COUNT(arms); i++) {
+        uint64_t k = arms[i].frames, numerator = k * arms[i].possible[1] - arms[i].possible[0] * arms[i].possible[0];
+        struct stack bad = stack_of(arms[i].impossible), good = stack_of(arms[i].possible);
+        check("tip_stack_add", arms[i].name,
+              adds(1, k, all_surveyed, black, &bad, 11, 0, 0, &bad) && adds(1, k, all_surveyed, black, &good, 0, 0, 0, &good)
+              && adds(1, k, last_gap, black, &bad, 0, 0, 0, &bad));
+        if (k >= 1)
+            check("tip_blinking_sites", arms[i].name,
+                  blinks(1, k, 2, all_surveyed, &bad, 11, 0, 0) && blinks(1, k, 2, all_surveyed, &good, 0, 0, 0)
+                  && blinks(1, k, 2, last_gap, &bad, 0, 0, 0));
+        if (k >= 2)
+            check("tip_stack_variance", arms[i].name,
+                  varies(1, k, all_surveyed, &bad, 11, 0, 0, 0, 0.0)
+                  && varies(1, k, all_surveyed, &good, 0, 0, numerator, 16, (double)numerator / 16.0)
+                  && varies(1, k, last_gap, &bad, 0, 0, 0, 12, 0.0));
+    }
+}
+
+/* Lengths that a call is handed with its buffers; buffer i alone has another than 4. A code above 3 follows. */
+enum { MASK, FRAME, SUMS, SQUARES, LEAST, GREATEST, BUFFERS };
+static const uint8_t lent_mask[5] = {0, 0, 4, 0, 0};
+static const uint16_t lent_frame[5];
+
+static uint64_t adds_lent(size_t width, size_t i, size_t length)
+{
+    size_t n[BUFFERS] = {4, 4, 4, 4, 4, 4};
+    uint64_t at, above, count;
+    struct stack of = no_frames;
+    n[i] = length;
+    return tip_stack_add(width, 2, 1, 1, lent_mask, n[MASK], lent_frame, n[FRAME], of.sums, n[SUMS], of.squares, n[SQUARES],
+                         of.least, n[LEAST], of.greatest, n[GREATEST], &at, &above, &count);
+}
+
+static uint64_t varies_lent(size_t width, size_t i, size_t length)
+{
+    size_t n[BUFFERS] = {4, 4, 4, 4, 4, 4};
+    uint64_t at, numerator, denominator;
+    double variance;
+    n[i] = length;
+    return tip_stack_variance(width, 2, 1, 1, lent_mask, n[MASK], no_frames.sums, n[SUMS], no_frames.squares, n[SQUARES],
+                              no_frames.least, n[LEAST], no_frames.greatest, n[GREATEST], &at, &numerator, &denominator, &variance);
+}
+
+static uint64_t blinks_lent(size_t width, size_t i, size_t length)
+{
+    size_t n[BUFFERS] = {4, 4, 4, 4, 4, 4};
+    uint64_t at, count;
+    n[i] = length;
+    return tip_blinking_sites(width, 2, 1, 1, 1, lent_mask, n[MASK], no_frames.sums, n[SUMS], no_frames.squares, n[SQUARES],
+                              no_frames.least, n[LEAST], no_frames.greatest, n[GREATEST], &at, &count);
+}
+
+static void stack_shapes(void)
+{
+    static const struct {
+        const char *name;
+        uint64_t (*lent)(size_t, size_t, size_t);
+        int takes_frame;
+    } calls[] = {{"tip_stack_add", adds_lent, 1}, {"tip_stack_variance", varies_lent, 0}, {"tip_blinking_sites", blinks_lent, 0}};
+    static const char *const one_off[BUFFERS] = {
+        "refused 4, mask one off", "refused 4, frame one off", "refused 4, sums one off",
+        "refused 4, squares one off", "refused 4, least one off", "refused 4, greatest one off"};
+
+    for (size_t c = 0; c < COUNT(calls); c++) {
+        check(calls[c].name, "refused 1 before 4", calls[c].lent(3, MASK, 0) == 1 && calls[c].lent(130, SUMS, 0) == 1);
+        for (size_t i = MASK; i < BUFFERS; i++)
+            if (i != FRAME || calls[c].takes_frame)
+                check(calls[c].name, one_off[i],
+                      calls[c].lent(2, i, 3) == 4 && calls[c].lent(2, i, 5) == 4 && calls[c].lent(2, i, 4) == 5);
+    }
 }
 
 /* ---- tip_pattern_vertical, tip_pattern_horizontal ---- */
@@ -1166,7 +1372,11 @@ int main(void)
         unpack_raw10,
         pair,
         dark_level,
-        stack,
+        stack_add,
+        stack_variance,
+        blinking_sites,
+        impossible_stacks,
+        stack_shapes,
         pattern,
         sites,
         lines,
