@@ -209,51 +209,58 @@ fn stack_at(site: usize, frames: u64, (sum, square, least, greatest): Held) -> S
     stack
 }
 
+/// A gap at site 3, where a stack may hold anything.
+const GAP_LAST: [u8; 4] = [SURVEYED, SURVEYED, SURVEYED, GAP];
+const BLINKS: [[u16; 4]; 2] = [[100, 101, 102, 65535], [101, 101, 99, 0]];
+
+/// Both frames in, and at the gap what no frames give.
+fn both_in() -> Stack {
+    Stack {
+        frames: 2,
+        sums: vec![201, 202, 201, 7],
+        squares: vec![20201, 20402, 20205, 8],
+        least: vec![100, 101, 99, 10],
+        greatest: vec![101, 101, 102, 9],
+    }
+}
+
 #[test]
 fn stack() {
-    let mask = [0, 0, 0, GAP];
-    let frames = [[100, 101, 102, 65535], [101, 101, 99, 0]];
-    // what is not surveyed may be impossible, and stays
-    let lent = stack_at(3, 0, (7, 8, 10, 9));
-    let mut stack = lent.clone();
-    assert_eq!(stack_add(SMALL, &mask, &frames[0], &mut stack), Ok(1));
-    let first = Stack {
+    let mut stack = stack_at(3, 0, (7, 8, 10, 9));
+    let mut turned = stack.clone();
+    let add = |frame, stack: &mut Stack| stack_add(SMALL, &GAP_LAST, frame, stack);
+    assert_eq!(add(&BLINKS[0], &mut stack), Ok(1));
+    let one_in = Stack {
         frames: 1,
         sums: vec![100, 101, 102, 7],
         squares: vec![10000, 10201, 10404, 8],
         least: vec![100, 101, 102, 10],
         greatest: vec![100, 101, 102, 9],
     };
-    assert_eq!(stack, first);
-    assert_eq!(blinking_sites(SMALL, 1, &mask, &stack), Ok(0));
-    assert_eq!(stack_add(SMALL, &mask, &frames[1], &mut stack), Ok(2));
-    let both = Stack {
-        frames: 2,
-        sums: vec![201, 202, 201, 7],
-        squares: vec![20201, 20402, 20205, 8],
-        least: vec![100, 101, 99, 10],
-        greatest: vec![101, 101, 102, 9],
-    };
-    assert_eq!(stack, both);
-    let mut turned = lent;
-    for frame in frames.iter().rev() {
-        stack_add(SMALL, &mask, frame, &mut turned).unwrap();
-    }
-    assert_eq!(turned, both);
+    assert_eq!(stack, one_in);
+    assert_eq!(add(&BLINKS[1], &mut stack), Ok(2));
+    assert_eq!(stack, both_in());
+    assert_eq!(add(&BLINKS[1], &mut turned), Ok(1));
+    assert_eq!(add(&BLINKS[0], &mut turned), Ok(2));
+    assert_eq!(turned, both_in());
+    counts_over(Call::StackAdd, 4, |mask, frame| {
+        stack_add(SMALL, mask, frame, &mut Stack::new(SMALL))
+    });
+}
 
+#[test]
+fn stack_figures() {
     let variance = Variance {
         exact: unsigned(10, 12),
         figure: 10.0 / 12.0,
     };
-    assert_eq!(stack_variance(SMALL, &mask, &both), Ok(variance));
+    assert_eq!(stack_variance(SMALL, &GAP_LAST, &both_in()), Ok(variance));
     for (spread, count) in [(1, 2), (2, 1), (3, 1), (4, 0), (4095, 0)] {
-        assert_eq!(blinking_sites(SMALL, spread, &mask, &both), Ok(count));
+        let counted = blinking_sites(SMALL, spread, &GAP_LAST, &both_in());
+        assert_eq!(counted, Ok(count));
     }
     // no surveyed site is no refusal
-    assert_eq!(blinking_sites(SMALL, 1, &[GAP; 4], &both), Ok(0));
-    counts_over(Call::StackAdd, 4, |mask, frame| {
-        stack_add(SMALL, mask, frame, &mut Stack::new(SMALL))
-    });
+    assert_eq!(blinking_sites(SMALL, 1, &[GAP; 4], &both_in()), Ok(0));
 }
 
 /// Each with all right that is tested before it, and something wrong that is tested after it.
