@@ -22,6 +22,7 @@ pub fn all() -> Vec<Box<dyn Contested>> {
         Box::new(dark::contest()),
         Box::new(stack::add()),
         Box::new(stack::variance()),
+        Box::new(stack::blinking()),
         Box::new(pattern::vertical()),
         Box::new(pattern::horizontal()),
         Box::new(sites::find_defects()),
