@@ -235,7 +235,7 @@ uint64_t tip_dark_level(size_t width, size_t height, uint64_t full_scale, uint64
 
 /*
  * Stacks of frames: up to 100 frames of one window, mask and full scale, of which only some numbers are kept. Three
- * calls share one stack; pattern noise takes its sums alone.
+ * calls share one stack; pattern noise takes its count and its sums alone.
  *
  * A stack. The count of its frames, and four numbers for each site, in four buffers of width * height each:
  *

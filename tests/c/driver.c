@@ -443,7 +443,7 @@ static void impossible_stacks(void)
     }
 }
 
-/* Lengths that a call is handed with its buffers; buffer i alone has another than 4. A code above 3 follows. */
+/* Buffer i alone is handed with another length than 4. A code above 3, which is tested later, is there too. */
 enum { MASK, FRAME, SUMS, SQUARES, LEAST, GREATEST, BUFFERS };
 static const uint8_t lent_mask[5] = {0, 0, 4, 0, 0};
 static const uint16_t lent_frame[5];
