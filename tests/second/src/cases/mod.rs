@@ -1,10 +1,12 @@
 //! Seeded cases, one maker a call.
 
+mod blinking;
 mod colour;
 mod counts;
 mod dark;
 mod dice;
 mod gain;
+mod held;
 mod job;
 mod judge;
 mod lines;
@@ -14,6 +16,7 @@ mod points;
 mod ranking;
 mod raw;
 mod recode;
+mod runs;
 mod shapes;
 mod sites;
 mod spoil;
@@ -78,14 +81,26 @@ pub const CALLS: &[Call] = &[
     Call {
         name: "stack_add",
         required: &[0, 1, 2, 3, 4, 5, 6, 11, 12],
-        kinds: &[],
+        kinds: reference::blinking::ADD_KINDS,
         round: stack::stack_add,
     },
     Call {
         name: "stack_variance",
         required: &[0, 1, 2, 3, 4, 5, 7, 11],
-        kinds: &[],
+        kinds: reference::blinking::VARIANCE_KINDS,
         round: stack::stack_variance,
+    },
+    Call {
+        name: "blinking_sites",
+        required: &[0, 1, 2, 3, 4, 5, 11],
+        kinds: reference::blinking::BLINKING_KINDS,
+        round: blinking::blinking_sites,
+    },
+    Call {
+        name: "runs of a stack",
+        required: &[0, 4, 5, 6, 7, 11, 12],
+        kinds: reference::blinking::RUN_KINDS,
+        round: runs::runs,
     },
     Call {
         name: "pattern_vertical",

@@ -201,8 +201,8 @@ fn round(lines: Lines, tally: &mut Tally, dice: &mut Dice) {
     sides(lines, tally, dice);
     sums_above(lines, tally, dice);
     codes(lines, tally, dice);
-    stacks::common(tally, dice, lines.shape(12, 2), |stack, _| {
-        of_stack(lines, stack)
+    stacks::common(tally, dice, lines.shape(12, 2), |tally, stack, _| {
+        tally.run(of_stack(lines, stack));
     });
     spoil::every_set(tally, dice, |dice| legal(lines, dice), SPOILERS);
     for _ in 0..80 {

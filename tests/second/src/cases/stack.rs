@@ -1,54 +1,50 @@
 //! Cases of adding to a stack and of the stack variance.
 
+use reference::blinking::{self, Offer};
 use reference::counts::Exposure;
 use reference::shared::{Answer, Window};
-use reference::stack;
+use reference::stack::{self, Adding, Held};
 
 use super::counts::{self, Exposed};
 use super::dice::Dice;
-use super::shapes::{self, Shape};
+use super::held;
+use super::shapes;
 use super::spoil;
-use super::stacks::{self, Stack};
-use super::tally::{Case, Tally};
+use super::stacks::{self, Stack, LEAST};
+use super::tally::{Asked, Case, Tally};
 use super::windows;
 use crate::library::{self, Lent};
 
 #[derive(Clone, Debug, PartialEq)]
-struct Add {
-    stack: Stack,
-    frame: Lent<u16>,
+pub struct Add {
+    pub stack: Stack,
+    pub frame: Lent<u16>,
 }
 
 #[derive(Clone, Debug, PartialEq)]
-struct Variance(Stack);
-
-fn lend(stack: &mut Stack) -> library::stack::Stack<'_> {
-    library::stack::Stack {
-        width: stack.width,
-        height: stack.height,
-        full_scale: stack.full_scale,
-        frames: stack.frames,
-        mask: &mut stack.mask,
-        sums: &mut stack.sums,
-        squares: &mut stack.squares,
-    }
-}
+pub struct Variance(pub Stack);
 
 impl Case for Add {
     fn reference(&mut self) -> Answer {
         let stack = &mut self.stack;
-        let window = Window {
-            width: stack.width,
-            height: stack.height,
-            full_scale: stack.full_scale,
-            mask: &stack.mask,
-            frame: &self.frame,
-        };
-        stack::stack_add(window, stack.frames, &mut stack.sums, &mut stack.squares)
+        stack::stack_add(Adding {
+            window: Window {
+                width: stack.width,
+                height: stack.height,
+                full_scale: stack.full_scale,
+                mask: &stack.mask,
+                frame: &self.frame,
+            },
+            frames: stack.frames,
+            sums: &mut stack.sums,
+            squares: &mut stack.squares,
+            least: &mut stack.least,
+            greatest: &mut stack.greatest,
+        })
     }
 
     fn library(&mut self) -> Answer {
-        library::stack::stack_add(lend(&mut self.stack), &mut self.frame)
+        library::stack::stack_add(self.stack.lend(), &mut self.frame)
     }
 }
 
@@ -69,34 +65,34 @@ impl Exposed for Add {
 
 impl Case for Variance {
     fn reference(&mut self) -> Answer {
-        stack::stack_variance(&stack::Stack {
-            width: self.0.width,
-            height: self.0.height,
-            full_scale: self.0.full_scale,
-            frames: self.0.frames,
-            mask: &self.0.mask,
-            sums: &self.0.sums,
-            squares: &self.0.squares,
-        })
+        stack::stack_variance(&self.0.lent())
     }
 
     fn library(&mut self) -> Answer {
-        library::stack::stack_variance(lend(&mut self.0))
+        library::stack::stack_variance(self.0.lend())
     }
 }
 
-const LEAST: Shape = Shape {
-    width: 2,
-    height: 2,
-};
+/// Asks a case, and counts it for all that it tells.
+fn tell_add(tally: &mut Tally, case: Add) -> Asked<Add> {
+    let told = blinking::told_of_adding(Offer {
+        stack: case.stack.lent(),
+        frame: &case.frame,
+    });
+    told.iter().for_each(|kind| tally.meet(kind));
+    tally.ask(case)
+}
+
+/// The same.
+fn tell_variance(tally: &mut Tally, case: Variance) -> Asked<Variance> {
+    let told = blinking::told_of_variance(&case.0.lent());
+    told.iter().for_each(|kind| tally.meet(kind));
+    tally.ask(case)
+}
 
 fn of_stack(stack: Stack, dice: &mut Dice) -> Add {
-    let shape = Shape {
-        width: stack.width,
-        height: stack.height,
-    };
     let mut mask = stack.mask.to_vec();
-    mask.resize(shape.sites(), 1);
+    mask.resize(stack.shape().sites(), 1);
     let frame = windows::frame(&mask, stack.full_scale.min(4095), dice);
     Add {
         stack,
@@ -109,16 +105,21 @@ fn legal(dice: &mut Dice) -> Add {
 }
 
 pub fn stack_add(tally: &mut Tally, dice: &mut Dice) {
-    whole_run(100, tally, dice);
-    for _ in 0..3 {
-        let count = dice.between(1, 20) as usize;
-        whole_run(count, tally, dice);
+    let ask = |tally: &mut Tally, stack, dice: &mut Dice| {
+        tell_add(tally, of_stack(stack, dice));
+    };
+    stacks::common(tally, dice, LEAST, ask);
+    for stack in stacks::near_impossible(0, dice) {
+        ask(tally, stack, dice);
     }
-    stacks::common(tally, dice, LEAST, of_stack);
     bad_frames(tally, dice);
-    spoil::every_set(tally, dice, legal, ADD_SPOILERS);
+    first_frames(tally, dice);
+    let cases: Vec<Add> = spoil::sets(dice, legal, ADD_SPOILERS).collect();
+    for case in cases {
+        tell_add(tally, case);
+    }
     for _ in 0..60 {
-        tally.run(legal(dice));
+        tell_add(tally, legal(dice));
     }
 }
 
@@ -130,20 +131,25 @@ pub fn counts_of_adding(tally: &mut Tally, dice: &mut Dice) {
 pub fn stack_variance(tally: &mut Tally, dice: &mut Dice) {
     greatest(tally);
     few_surveyed(tally, dice);
-    stacks::common(tally, dice, LEAST, |stack, _| Variance(stack));
-    spoil::every_set(
-        tally,
-        dice,
-        |dice| Variance(Stack::legal(dice)),
-        VARIANCE_SPOILERS,
-    );
-    for _ in 0..80 {
-        tally.run(Variance(Stack::legal(dice)));
+    let ask = |tally: &mut Tally, stack, _: &mut Dice| {
+        tell_variance(tally, Variance(stack));
+    };
+    stacks::common(tally, dice, LEAST, ask);
+    for stack in stacks::near_impossible(2, dice) {
+        ask(tally, stack, dice);
+    }
+    let legal = |dice: &mut Dice| Variance(Stack::legal(dice));
+    let cases: Vec<Variance> = spoil::sets(dice, legal, VARIANCE_SPOILERS).collect();
+    for case in cases {
+        tell_variance(tally, case);
+    }
+    for _ in 0..40 {
+        other_ends(tally, dice);
     }
 }
 
 const ADD_SPOILERS: &[spoil::Spoiler<Add>] = &[
-    |case, _| case.stack.frames = 100,
+    |case, dice| case.stack.fill(dice),
     |case, dice| case.stack.tamper(dice),
     |case, dice| {
         let full_scale = case.stack.full_scale;
@@ -173,23 +179,16 @@ const VARIANCE_SPOILERS: &[spoil::Spoiler<Variance>] = &[
     |case, dice| case.0.spoil_sides(dice),
 ];
 
-/// A stack from zero sums, then the same frames in another order; every sum is compared
-/// after each frame. A frame more is refused at the end of a full run.
-fn whole_run(count: usize, tally: &mut Tally, dice: &mut Dice) {
-    let shape = shapes::legal(dice);
-    let mask = windows::mask(shape.sites(), dice);
-    let full_scale = windows::full_scale(dice);
-    let mut frames: Vec<Vec<u16>> = (0..=count)
-        .map(|_| windows::frame(&mask, full_scale, dice))
-        .collect();
-    for _ in 0..2 {
-        let mut stack = Stack::of(shape, full_scale, 0, mask.clone(), dice);
-        for (before, frame) in frames.iter().enumerate() {
-            stack.frames = before as u64;
-            let frame = Lent::new("frame", frame.clone());
-            stack = tally.run(Add { stack, frame }).stack;
+/// Empty stacks with junk at gaps, samples at both ends of the range, and stacks of one frame.
+fn first_frames(tally: &mut Tally, dice: &mut Dice) {
+    for frames in [0, 1] {
+        for full_scale in [1, 1023, 4095] {
+            for shape in [LEAST, shapes::SQUARE, shapes::legal(dice)] {
+                let mask = windows::mask(shape.sites(), dice);
+                let stack = Stack::of(shape, full_scale, frames, mask, dice);
+                tell_add(tally, of_stack(stack, dice));
+            }
         }
-        dice.shuffle(&mut frames);
     }
 }
 
@@ -205,10 +204,10 @@ fn bad_frames(tally: &mut Tally, dice: &mut Dice) {
                     let mut case = of_stack(stack, dice);
                     for sample in [full_scale as u16, full_scale as u16 + 1, 65535] {
                         case.frame[site] = sample;
-                        tally.run(case.clone());
+                        tell_add(tally, case.clone());
                         let mut tampered = case.clone();
                         tampered.stack.tamper(dice);
-                        tally.run(tampered);
+                        tell_add(tally, tampered);
                     }
                 }
             }
@@ -217,24 +216,22 @@ fn bad_frames(tally: &mut Tally, dice: &mut Dice) {
     for length in spoil::wrong_lengths(4) {
         let mut case = of_stack(Stack::of_shape(LEAST, dice), dice);
         case.frame.resize(length, 0);
-        tally.run(case);
+        tell_add(tally, case);
     }
 }
 
 /// The greatest numerator of all stacks, 16,384 x (100 x 4,095)^2, which sums of 0 have, and the
 /// greatest sums, with a numerator of 0.
 fn greatest(tally: &mut Tally) {
-    for sum in [0, 100 * 4095] {
-        let shape = shapes::GREAT[0];
-        tally.run(Variance(Stack {
-            width: shape.width,
-            height: shape.height,
-            full_scale: 4095,
-            frames: 100,
-            mask: Lent::new("mask", vec![0; shape.sites()]),
-            sums: Lent::new("sums", vec![sum; shape.sites()]),
-            squares: Lent::new("squares", vec![100 * 4095 * 4095; shape.sites()]),
-        }));
+    for s in [0, 100 * 4095] {
+        let held = Held {
+            s,
+            q: 100 * 4095 * 4095,
+            least: 0,
+            greatest: 4095,
+        };
+        let stack = Stack::level(shapes::GREAT[0], 4095, 100, held);
+        tally.run(Variance(stack));
     }
 }
 
@@ -243,11 +240,33 @@ fn few_surveyed(tally: &mut Tally, dice: &mut Dice) {
         for frames in [1, 2] {
             for shape in [LEAST, shapes::legal(dice), shapes::GREAT[0]] {
                 let mask = windows::mask_surveying(count, shape.sites(), dice);
-                tally.run(Variance(Stack::of(shape, 1023, frames, mask.clone(), dice)));
+                let stack = Stack::of(shape, 1023, frames, mask.clone(), dice);
+                tell_variance(tally, Variance(stack));
                 let mut tampered = Stack::of(shape, 1023, frames, mask, dice);
                 tampered.tamper(dice);
-                tally.run(Variance(tampered));
+                tell_variance(tally, Variance(tampered));
             }
         }
     }
+}
+
+/// The same sums with other least and greatest samples, which no figure reads.
+fn other_ends(tally: &mut Tally, dice: &mut Dice) {
+    let mut stack = Stack::legal(dice);
+    stack.mask[0] = 0;
+    let held = held::barely_legal(stack.frames, stack.full_scale, dice);
+    stack.put(0, held);
+    let one = tell_variance(tally, Variance(stack.clone()));
+    for site in 0..stack.mask.len() {
+        let held = stack.held(site);
+        if stack.mask[site] == 0 {
+            stack.put(
+                site,
+                held::with_other_ends(held, stack.frames, stack.full_scale, dice),
+            );
+        }
+    }
+    let other = tell_variance(tally, Variance(stack));
+    let law = blinking::same_figures(&one.answers.found, &other.answers.found);
+    tally.compare("least and greatest changed", law, &one, &other);
 }

@@ -75,6 +75,15 @@ impl Tally {
         *self.kinds.entry(kind.to_string()).or_insert(0) += 1;
     }
 
+    /// Counts a case of this kind; a law that its answer breaks is a difference.
+    pub fn demand<C: Case>(&mut self, kind: &str, law: Law, one: &Asked<C>) {
+        self.meet(kind);
+        if let Err(broken) = law {
+            let one = shown(&one.case, &one.answers);
+            self.differ(|| format!("  {kind}: {broken}\n{one}"));
+        }
+    }
+
     /// Counts two cases that stand in a relation; a law that their answers break is a difference.
     pub fn compare<C: Case, D: Case>(
         &mut self,

@@ -16,6 +16,10 @@ extern "C" {
         sums_len: usize,
         squares: *mut u32,
         squares_len: usize,
+        least: *mut u16,
+        least_len: usize,
+        greatest: *mut u16,
+        greatest_len: usize,
         place: *mut u64,
         over: *mut u64,
         count: *mut u64,
@@ -32,14 +36,38 @@ extern "C" {
         sums_len: usize,
         squares: *const u32,
         squares_len: usize,
+        least: *const u16,
+        least_len: usize,
+        greatest: *const u16,
+        greatest_len: usize,
         place: *mut u64,
         numerator: *mut u64,
         denominator: *mut u64,
         variance: *mut f64,
     ) -> u64;
+
+    fn tip_blinking_sites(
+        width: usize,
+        height: usize,
+        full_scale: u64,
+        frames: u64,
+        spread: u64,
+        mask: *const u8,
+        mask_len: usize,
+        sums: *const u32,
+        sums_len: usize,
+        squares: *const u32,
+        squares_len: usize,
+        least: *const u16,
+        least_len: usize,
+        greatest: *const u16,
+        greatest_len: usize,
+        place: *mut u64,
+        count: *mut u64,
+    ) -> u64;
 }
 
-/// What both calls are lent.
+/// What all three calls are lent.
 pub struct Stack<'a> {
     pub width: usize,
     pub height: usize,
@@ -48,6 +76,8 @@ pub struct Stack<'a> {
     pub mask: &'a mut Lent<u8>,
     pub sums: &'a mut Lent<u32>,
     pub squares: &'a mut Lent<u32>,
+    pub least: &'a mut Lent<u16>,
+    pub greatest: &'a mut Lent<u16>,
 }
 
 pub fn stack_add(stack: Stack, frame: &mut Lent<u16>) -> Answer {
@@ -67,6 +97,10 @@ pub fn stack_add(stack: Stack, frame: &mut Lent<u16>) -> Answer {
             stack.sums.len(),
             stack.squares.address(),
             stack.squares.len(),
+            stack.least.address(),
+            stack.least.len(),
+            stack.greatest.address(),
+            stack.greatest.len(),
             &mut place,
             &mut over,
             &mut count,
@@ -96,6 +130,10 @@ pub fn stack_variance(stack: Stack) -> Answer {
             stack.sums.len(),
             stack.squares.address(),
             stack.squares.len(),
+            stack.least.address(),
+            stack.least.len(),
+            stack.greatest.address(),
+            stack.greatest.len(),
             &mut place,
             &mut numerator,
             &mut denominator,
@@ -112,5 +150,37 @@ pub fn stack_variance(stack: Stack) -> Answer {
         place,
         over: NO_COUNT,
         figures,
+    }
+}
+
+pub fn blinking_sites(stack: Stack, spread: u64) -> Answer {
+    let (mut place, mut count) = (GARBAGE, GARBAGE);
+    // SAFETY: each buffer is lent with its own length, and only the cells are written.
+    let number = unsafe {
+        tip_blinking_sites(
+            stack.width,
+            stack.height,
+            stack.full_scale,
+            stack.frames,
+            spread,
+            stack.mask.address(),
+            stack.mask.len(),
+            stack.sums.address(),
+            stack.sums.len(),
+            stack.squares.address(),
+            stack.squares.len(),
+            stack.least.address(),
+            stack.least.len(),
+            stack.greatest.address(),
+            stack.greatest.len(),
+            &mut place,
+            &mut count,
+        )
+    };
+    Answer {
+        number,
+        place,
+        over: NO_COUNT,
+        figures: vec![count.into()],
     }
 }

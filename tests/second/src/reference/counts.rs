@@ -214,7 +214,7 @@ mod tests {
     use crate::lines::{defective_columns, defective_rows};
     use crate::shared::{settle, Refusal, Window};
     use crate::sites::{find_defects, repair};
-    use crate::stack::stack_add;
+    use crate::stack::{stack_add, Adding};
 
     const MASK: &[u8] = &[0, 1, 0, 0];
     const FIRST: &[u16] = &[1024, 65535, 100, 1023];
@@ -258,13 +258,20 @@ mod tests {
             mask,
             frame,
         };
-        let (marks, sums, squares) = (&mut [0; 4], &mut [0; 4], &mut [0; 4]);
+        let marks = &mut [0; 4];
         let (out_frame, out_mask) = (&mut [0; 4], &mut [0; 4]);
         [
             dark_level(window, parameter),
             colour_ratios(window, parameter, 0),
             find_defects(window, parameter, out_mask),
-            stack_add(window, parameter, sums, squares),
+            stack_add(Adding {
+                window,
+                frames: parameter,
+                sums: &mut [0; 4],
+                squares: &mut [0; 4],
+                least: &mut [0; 4],
+                greatest: &mut [0; 4],
+            }),
             repair(window, out_frame, out_mask),
             defective_rows(window, marks),
             defective_columns(window, marks),

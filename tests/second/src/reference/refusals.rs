@@ -1,5 +1,5 @@
-//! The refusals of the shading calls: slips in their order, in the lengths and in the smallest
-//! plane, and which cases tell them.
+//! The refusals of the shading calls and of those on a stack: slips in their order, in the lengths
+//! and, of shading, in the smallest plane, and which cases tell them.
 
 use crate::shading::entries_of;
 use crate::shared::names;

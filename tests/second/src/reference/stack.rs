@@ -1,4 +1,5 @@
-//! Stack: sums and sums of squares of up to 100 frames.
+//! Stack: sums, sums of squares, least and greatest samples of up to 100 frames, and the sites of it
+//! that blink (document 02, i).
 
 use crate::float::rounded_quotient;
 use crate::shared::{
@@ -6,7 +7,8 @@ use crate::shared::{
     Outcome, Refusal, Window,
 };
 
-/// What the stack variance is lent.
+/// What the calls that only read a stack are lent.
+#[derive(Clone, Copy)]
 pub struct Stack<'a> {
     pub width: usize,
     pub height: usize,
@@ -15,11 +17,32 @@ pub struct Stack<'a> {
     pub mask: &'a [u8],
     pub sums: &'a [u32],
     pub squares: &'a [u32],
+    pub least: &'a [u16],
+    pub greatest: &'a [u16],
+}
+
+/// What adding a frame is lent.
+pub struct Adding<'a> {
+    pub window: Window<'a>,
+    pub frames: u64,
+    pub sums: &'a mut [u32],
+    pub squares: &'a mut [u32],
+    pub least: &'a mut [u16],
+    pub greatest: &'a mut [u16],
+}
+
+/// What a stack holds of one site.
+#[derive(Clone, Copy, Debug, PartialEq, Eq)]
+pub struct Held {
+    pub s: u32,
+    pub q: u32,
+    pub least: u16,
+    pub greatest: u16,
 }
 
 /// The new frame count.
-pub fn stack_add(window: Window, frames: u64, sums: &mut [u32], squares: &mut [u32]) -> Answer {
-    settle(add(window, frames, sums, squares), 1)
+pub fn stack_add(lent: Adding) -> Answer {
+    settle(add(lent), 1)
 }
 
 /// Numerator, denominator and the bits of their quotient.
@@ -27,46 +50,51 @@ pub fn stack_variance(stack: &Stack) -> Answer {
     settle(variance(stack), 3)
 }
 
-fn add(window: Window, frames: u64, sums: &mut [u32], squares: &mut [u32]) -> Outcome {
-    let sites = window.check_scale()?;
-    refuse_if(frames > 100, 3)?;
-    window.check_contents(&[(sums.len(), sites), (squares.len(), sites)])?;
-    check_sums(window.mask, sums, squares, frames, window.full_scale)?;
-    refuse_if(frames == 100, 12)?;
-    for site in surveyed(window.mask) {
-        let sample = u32::from(window.frame[site]);
-        sums[site] += sample;
-        squares[site] += sample * sample;
+/// The count of blinking sites.
+pub fn blinking_sites(stack: &Stack, spread: u64) -> Answer {
+    settle(blinking(stack, spread), 1)
+}
+
+fn add(lent: Adding) -> Outcome {
+    let Window { mask, frame, .. } = lent.window;
+    let sites = lent.window.check_scale()?;
+    refuse_if(lent.frames > 100, 3)?;
+    lent.window.check_contents(&[
+        (lent.sums.len(), sites),
+        (lent.squares.len(), sites),
+        (lent.least.len(), sites),
+        (lent.greatest.len(), sites),
+    ])?;
+    lent.stack().check_possible()?;
+    refuse_if(lent.frames == 100, 12)?;
+    for site in surveyed(mask) {
+        let sample = frame[site];
+        lent.sums[site] += u32::from(sample);
+        lent.squares[site] += u32::from(sample) * u32::from(sample);
+        // The zeros of an empty stack are no samples.
+        let is_first = lent.frames == 0;
+        if is_first || sample < lent.least[site] {
+            lent.least[site] = sample;
+        }
+        if is_first || sample > lent.greatest[site] {
+            lent.greatest[site] = sample;
+        }
     }
-    Ok(vec![i128::from(frames) + 1])
+    Ok(vec![i128::from(lent.frames) + 1])
 }
 
 fn variance(stack: &Stack) -> Outcome {
-    let sites = sites_of(stack.width, stack.height)?;
-    check_full_scale(stack.full_scale)?;
+    stack.check_scale()?;
     refuse_if(stack.frames == 0 || stack.frames > 100, 3)?;
-    check_lengths(&[
-        (stack.mask.len(), sites),
-        (stack.sums.len(), sites),
-        (stack.squares.len(), sites),
-    ])?;
-    check_codes(stack.mask)?;
+    stack.check_contents()?;
     let n = surveyed(stack.mask).count() as i128;
     refuse_if(n == 0 || stack.frames < 2, 7)?;
-    check_sums(
-        stack.mask,
-        stack.sums,
-        stack.squares,
-        stack.frames,
-        stack.full_scale,
-    )?;
+    stack.check_possible()?;
     let k = i128::from(stack.frames);
     let mut numerator = 0;
     for site in surveyed(stack.mask) {
-        let (s, q) = (
-            i128::from(stack.sums[site]),
-            i128::from(stack.squares[site]),
-        );
+        let Held { s, q, .. } = stack.held(site);
+        let (s, q) = (i128::from(s), i128::from(q));
         numerator += k * q - s * s;
     }
     let denominator = n * k * k;
@@ -74,45 +102,188 @@ fn variance(stack: &Stack) -> Outcome {
     Ok(vec![numerator, denominator, quotient.into()])
 }
 
-/// Refusal 11: the three conditions as written, at surveyed sites alone.
-fn check_sums(
-    mask: &[u8],
-    sums: &[u32],
-    squares: &[u32],
-    frames: u64,
-    full_scale: u64,
-) -> Result<(), Refusal> {
-    let (k, scale) = (i128::from(frames), i128::from(full_scale));
-    for site in surveyed(mask) {
-        let (s, q) = (i128::from(sums[site]), i128::from(squares[site]));
-        refuse_if(s > k * scale || q > k * scale * scale || k * q < s * s, 11)?;
+fn blinking(stack: &Stack, spread: u64) -> Outcome {
+    stack.check_scale()?;
+    refuse_if(spread == 0 || spread > 4095, 3)?;
+    refuse_if(stack.frames == 0 || stack.frames > 100, 3)?;
+    stack.check_contents()?;
+    stack.check_possible()?;
+    let mut count = 0;
+    for site in surveyed(stack.mask) {
+        let Held {
+            least, greatest, ..
+        } = stack.held(site);
+        if i128::from(greatest) - i128::from(least) >= i128::from(spread) {
+            count += 1;
+        }
     }
-    Ok(())
+    Ok(vec![count])
+}
+
+impl Adding<'_> {
+    /// The stack as lent.
+    pub fn stack(&self) -> Stack<'_> {
+        Stack {
+            width: self.window.width,
+            height: self.window.height,
+            full_scale: self.window.full_scale,
+            frames: self.frames,
+            mask: self.window.mask,
+            sums: self.sums,
+            squares: self.squares,
+            least: self.least,
+            greatest: self.greatest,
+        }
+    }
+}
+
+impl Stack<'_> {
+    pub fn held(&self, site: usize) -> Held {
+        Held {
+            s: self.sums[site],
+            q: self.squares[site],
+            least: self.least[site],
+            greatest: self.greatest[site],
+        }
+    }
+
+    /// Refusals 1 and 2.
+    pub(crate) fn check_scale(&self) -> Result<(), Refusal> {
+        sites_of(self.width, self.height)?;
+        check_full_scale(self.full_scale)
+    }
+
+    /// Refusals 4 and 5.
+    pub(crate) fn check_contents(&self) -> Result<(), Refusal> {
+        let sites = self.width * self.height;
+        check_lengths(&[
+            (self.mask.len(), sites),
+            (self.sums.len(), sites),
+            (self.squares.len(), sites),
+            (self.least.len(), sites),
+            (self.greatest.len(), sites),
+        ])?;
+        check_codes(self.mask)
+    }
+
+    /// Refusal 11, at surveyed sites alone.
+    pub(crate) fn check_possible(&self) -> Result<(), Refusal> {
+        for site in surveyed(self.mask) {
+            refuse_if(
+                is_impossible(self.held(site), self.frames, self.full_scale),
+                11,
+            )?;
+        }
+        Ok(())
+    }
+}
+
+/// The conditions of refusal 11 as documents 01 and 02 write them, whether or not one follows from others.
+pub fn is_impossible(held: Held, frames: u64, full_scale: u64) -> bool {
+    let (k, scale) = (i128::from(frames), i128::from(full_scale));
+    let (s, q) = (i128::from(held.s), i128::from(held.q));
+    let (least, greatest) = (i128::from(held.least), i128::from(held.greatest));
+    let conditions = [
+        s > k * scale,
+        q > k * scale * scale,
+        k * q < s * s,
+        least > greatest,
+        greatest > scale,
+        s < k * least,
+        s > k * greatest,
+        k == 0 && least > 0,
+        k == 0 && greatest > 0,
+    ];
+    conditions.contains(&true)
 }
 
 #[cfg(test)]
 mod tests {
     use super::*;
 
-    fn window<'a>(mask: &'a [u8], frame: &'a [u16]) -> Window<'a> {
-        Window {
-            width: 2,
-            height: 2,
-            full_scale: 10,
-            mask,
-            frame,
+    /// Four sites of full scale 10 and what they hold.
+    #[derive(Clone)]
+    struct Four {
+        mask: [u8; 4],
+        frames: u64,
+        sums: [u32; 4],
+        squares: [u32; 4],
+        least: [u16; 4],
+        greatest: [u16; 4],
+    }
+
+    impl Four {
+        fn empty(mask: [u8; 4]) -> Self {
+            Four {
+                mask,
+                frames: 0,
+                sums: [0; 4],
+                squares: [0; 4],
+                least: [0; 4],
+                greatest: [0; 4],
+            }
+        }
+
+        /// The same at every site.
+        fn filled(mask: [u8; 4], frames: u64, held: Held) -> Self {
+            Four {
+                mask,
+                frames,
+                sums: [held.s; 4],
+                squares: [held.q; 4],
+                least: [held.least; 4],
+                greatest: [held.greatest; 4],
+            }
+        }
+
+        fn add(&mut self, frame: [u16; 4]) -> Answer {
+            let answer = stack_add(Adding {
+                window: Window {
+                    width: 2,
+                    height: 2,
+                    full_scale: 10,
+                    mask: &self.mask,
+                    frame: &frame,
+                },
+                frames: self.frames,
+                sums: &mut self.sums,
+                squares: &mut self.squares,
+                least: &mut self.least,
+                greatest: &mut self.greatest,
+            });
+            self.frames += u64::from(answer.number == 0);
+            answer
+        }
+
+        fn stack(&self) -> Stack<'_> {
+            Stack {
+                width: 2,
+                height: 2,
+                full_scale: 10,
+                frames: self.frames,
+                mask: &self.mask,
+                sums: &self.sums,
+                squares: &self.squares,
+                least: &self.least,
+                greatest: &self.greatest,
+            }
+        }
+
+        fn variance(&self) -> Answer {
+            stack_variance(&self.stack())
+        }
+
+        fn blinking(&self, spread: u64) -> Answer {
+            blinking_sites(&self.stack(), spread)
         }
     }
 
-    fn stack<'a>(frames: u64, mask: &'a [u8], sums: &'a [u32], squares: &'a [u32]) -> Stack<'a> {
-        Stack {
-            width: 2,
-            height: 2,
-            full_scale: 10,
-            frames,
-            mask,
-            sums,
-            squares,
+    fn held(s: u32, q: u32, least: u16, greatest: u16) -> Held {
+        Held {
+            s,
+            q,
+            least,
+            greatest,
         }
     }
 
@@ -122,80 +293,176 @@ mod tests {
 
     #[test]
     fn adding_touches_surveyed_sites_only() {
-        let (mut sums, mut squares) = ([0, 0, u32::MAX, 7], [0, 0, u32::MAX, 9]);
-        let mask = [0, 0, 1, 2];
-        let first = stack_add(
-            window(&mask, &[3, 10, 65535, 4]),
-            0,
-            &mut sums,
-            &mut squares,
-        );
-        assert_eq!(first.figures, [1]);
-        let second = stack_add(window(&mask, &[4, 0, 65535, 4]), 1, &mut sums, &mut squares);
-        assert_eq!(second.figures, [2]);
-        assert_eq!(sums, [7, 10, u32::MAX, 7]);
-        assert_eq!(squares, [25, 100, u32::MAX, 9]);
-        let variance = stack_variance(&stack(2, &mask, &sums, &squares));
-        assert_eq!(variance.figures, [101, 8, bits(101.0, 8.0)]);
+        let mut stack = Four {
+            sums: [0, 0, u32::MAX, 7],
+            squares: [0, 0, u32::MAX, 9],
+            least: [0, 0, 65535, 5],
+            greatest: [0, 0, 3, 5],
+            ..Four::empty([0, 0, 1, 2])
+        };
+        assert_eq!(stack.add([3, 10, 65535, 4]).figures, [1]);
+        assert_eq!(stack.add([4, 0, 65535, 4]).figures, [2]);
+        assert_eq!(stack.sums, [7, 10, u32::MAX, 7]);
+        assert_eq!(stack.squares, [25, 100, u32::MAX, 9]);
+        assert_eq!(stack.least, [3, 0, 65535, 5]);
+        assert_eq!(stack.greatest, [4, 10, 3, 5]);
+        assert_eq!(stack.variance().figures, [101, 8, bits(101.0, 8.0)]);
+        assert_eq!(stack.blinking(1).figures, [2]);
+        assert_eq!(stack.blinking(2).figures, [1]);
+        assert_eq!(stack.blinking(10).figures, [1]);
+        assert_eq!(stack.blinking(11).figures, [0]);
     }
 
-    /// R8: the three conditions decide, though no frames give these sums.
     #[test]
-    fn sums_within_the_three_conditions_are_accepted() {
-        let variance = stack_variance(&stack(2, &[0; 4], &[0; 4], &[200; 4]));
-        assert_eq!(variance.figures, [1600, 16, bits(1600.0, 16.0)]);
-        assert_eq!(
-            stack_variance(&stack(2, &[0; 4], &[0; 4], &[201; 4])).number,
-            11
-        );
+    fn the_first_frame_is_least_and_greatest() {
+        let mut stack = Four::empty([0; 4]);
+        stack.add([3, 0, 10, 5]);
+        assert_eq!(stack.least, [3, 0, 10, 5]);
+        assert_eq!(stack.greatest, [3, 0, 10, 5]);
+        stack.add([2, 1, 10, 6]);
+        assert_eq!(stack.least, [2, 0, 10, 5]);
+        assert_eq!(stack.greatest, [3, 1, 10, 6]);
     }
 
+    #[test]
+    fn a_refused_frame_leaves_the_stack() {
+        let mut stack = Four::empty([0, 0, 0, 1]);
+        stack.add([3, 4, 5, 6]);
+        let before = stack.clone();
+        assert_eq!(stack.add([9, 9, 11, 9]).number, 6);
+        stack.frames = 101;
+        assert_eq!(stack.add([9; 4]).number, 3);
+        stack.frames = 100;
+        assert_eq!(stack.add([9; 4]).number, 11);
+        assert_eq!(stack.sums, before.sums);
+        assert_eq!(stack.squares, before.squares);
+        assert_eq!(stack.least, before.least);
+        assert_eq!(stack.greatest, before.greatest);
+    }
+
+    /// Site 0 at 100, then at 900, the others at 500 both times, full scale 1023.
+    #[test]
+    fn one_site_blinks() {
+        let empty = Four::empty([0; 4]);
+        let empty = Stack {
+            full_scale: 1023,
+            ..empty.stack()
+        };
+        let twice = Stack {
+            frames: 2,
+            sums: &[1000; 4],
+            squares: &[820_000, 500_000, 500_000, 500_000],
+            least: &[100, 500, 500, 500],
+            greatest: &[900, 500, 500, 500],
+            ..empty
+        };
+        assert_eq!(blinking_sites(&twice, 800).figures, [1]);
+        assert_eq!(blinking_sites(&twice, 801).figures, [0]);
+        assert_eq!(blinking_sites(&twice, 1).figures, [1]);
+        assert_eq!(blinking_sites(&empty, 1).number, 3);
+    }
+
+    /// R8: the conditions decide, though no frames give these sums.
+    #[test]
+    fn sums_within_the_conditions_are_accepted() {
+        let of = |q| Four::filled([0; 4], 2, held(0, q, 0, 0));
+        assert_eq!(of(200).variance().figures, [1600, 16, bits(1600.0, 16.0)]);
+        assert_eq!(of(200).blinking(1).figures, [0]);
+        assert_eq!(of(201).variance().number, 11);
+        assert_eq!(of(201).blinking(1).number, 11);
+    }
+
+    /// Both sides of each condition, in all three calls.
     #[test]
     fn each_condition_of_11() {
-        let judged = |s, q| stack_variance(&stack(3, &[0, 1, 1, 1], &[s, 9, 9, 9], &[q; 4])).number;
-        assert_eq!(judged(30, 300), 0);
-        assert_eq!(judged(31, 300), 11);
-        assert_eq!(judged(30, 301), 11);
-        assert_eq!(judged(4, 6), 0);
-        assert_eq!(judged(4, 5), 11);
+        let judged = |frames, held| {
+            let mut stack = Four::filled([0, 1, 1, 1], frames, held);
+            let number = stack.variance().number;
+            assert_eq!(stack.blinking(1).number, number);
+            assert_eq!(stack.add([0; 4]).number, number);
+            number
+        };
+        assert_eq!(judged(3, held(30, 300, 10, 10)), 0);
+        assert_eq!(judged(3, held(30, 301, 10, 10)), 11);
+        assert_eq!(judged(3, held(31, 320, 10, 11)), 11);
+        assert_eq!(judged(3, held(4, 6, 1, 2)), 0);
+        assert_eq!(judged(3, held(4, 5, 1, 2)), 11);
+        assert_eq!(judged(3, held(4, 6, 1, 10)), 0);
+        assert_eq!(judged(3, held(4, 6, 1, 11)), 11);
+        assert_eq!(judged(3, held(6, 12, 2, 2)), 0);
+        assert_eq!(judged(3, held(5, 12, 2, 2)), 11);
+        assert_eq!(judged(3, held(7, 17, 2, 2)), 11);
+        assert_eq!(judged(3, held(6, 12, 3, 2)), 11);
+        assert_eq!(judged(3, held(0, 0, 0, 0)), 0);
+    }
+
+    #[test]
+    fn an_empty_stack_holds_zeros() {
+        let added = |held| Four::filled([0, 1, 2, 3], 0, held).add([5; 4]).number;
+        assert_eq!(added(held(0, 0, 0, 0)), 0);
+        for held in [
+            held(1, 0, 0, 0),
+            held(0, 1, 0, 0),
+            held(0, 0, 1, 0),
+            held(0, 0, 0, 1),
+            held(0, 0, 1, 1),
+        ] {
+            assert_eq!(added(held), 11);
+        }
     }
 
     /// R10.
     #[test]
     fn frame_counts() {
-        let mask = [0, 1, 1, 1];
-        let added = |frames, sample, s| {
-            stack_add(
-                window(&mask, &[sample; 4]),
-                frames,
-                &mut [s; 4],
-                &mut [s; 4],
-            )
-        };
-        assert_eq!(added(0, 10, 0).figures, [1]);
-        assert_eq!(added(0, 10, 1).number, 11);
-        assert_eq!(added(99, 10, 0).figures, [100]);
-        assert_eq!(added(100, 10, 0), settle(Err(Refusal::new(12, 0)), 1));
-        assert_eq!(added(100, 11, 0).number, 6);
-        assert_eq!(added(100, 10, 10_001).number, 11);
-        assert_eq!(added(101, 11, 10_001).number, 3);
-        let varied = |frames, s| stack_variance(&stack(frames, &mask, &[s; 4], &[s; 4])).number;
+        let of =
+            |frames, s: u32, greatest| Four::filled([0, 1, 1, 1], frames, held(s, s, 0, greatest));
+        let added = |frames, sample, s, greatest| of(frames, s, greatest).add([sample; 4]);
+        assert_eq!(added(0, 10, 0, 0).figures, [1]);
+        assert_eq!(added(0, 10, 1, 0).number, 11);
+        assert_eq!(added(99, 10, 0, 10).figures, [100]);
+        assert_eq!(added(100, 10, 0, 10), settle(Err(Refusal::new(12, 0)), 1));
+        assert_eq!(added(100, 11, 0, 10).number, 6);
+        assert_eq!(added(100, 10, 0, 11).number, 11);
+        assert_eq!(added(101, 11, 0, 11).number, 3);
+        let varied = |frames, greatest| of(frames, 0, greatest).variance().number;
         assert_eq!(varied(0, 0), 3);
         assert_eq!(varied(1, 11), 7);
         assert_eq!(varied(2, 0), 0);
         assert_eq!(varied(100, 0), 0);
         assert_eq!(varied(101, 0), 3);
-        assert_eq!(
-            stack_variance(&stack(2, &[1; 4], &[0; 4], &[0; 4])).number,
-            7
-        );
+        let blinking = |frames, greatest| of(frames, 0, greatest).blinking(1).number;
+        assert_eq!(blinking(0, 0), 3);
+        assert_eq!(blinking(0, 1), 3);
+        assert_eq!(blinking(1, 0), 0);
+        assert_eq!(blinking(1, 11), 11);
+        assert_eq!(blinking(100, 10), 0);
+        assert_eq!(blinking(101, 10), 3);
+    }
+
+    /// No surveyed site: 7 in the variance, the count 0 in the new call, and nothing is read.
+    #[test]
+    fn no_surveyed_site() {
+        let stack = Four::filled([1, 2, 3, 1], 2, held(u32::MAX, 0, 65535, 0));
+        assert_eq!(stack.variance().number, 7);
+        assert_eq!(stack.blinking(1), settle(Ok(vec![0]), 1));
+    }
+
+    #[test]
+    fn spreads_on_both_sides_of_each_limit() {
+        let stack = Four::filled([0; 4], 2, held(10, 100, 0, 10));
+        for (spread, count) in [(1, 4), (10, 4), (11, 0), (4095, 0)] {
+            assert_eq!(stack.blinking(spread), settle(Ok(vec![count]), 1));
+        }
+        for spread in [0, 4096, (1 << 32) + 1, u64::MAX] {
+            assert_eq!(stack.blinking(spread), settle(Err(Refusal::new(3, 0)), 1));
+        }
     }
 
     /// The numerator is at most n x (k x full scale)^2, and these sums, which refusal 11 lets pass,
     /// meet that bound. It is below 2^53, so every numerator is an exact float.
     #[test]
     fn the_greatest_numerator() {
-        let (mask, sums) = (vec![0; 16384], vec![0; 16384]);
+        let (mask, sums, ends) = (vec![0; 16384], vec![0; 16384], vec![0; 16384]);
         let squares = vec![100 * 4095 * 4095; 16384];
         let greatest = Stack {
             width: 128,
@@ -205,6 +472,8 @@ mod tests {
             mask: &mask,
             sums: &sums,
             squares: &squares,
+            least: &ends,
+            greatest: &ends,
         };
         let bound = 16384 * (100 * 4095i128).pow(2);
         assert_eq!(bound, 2_747_437_056_000_000);
