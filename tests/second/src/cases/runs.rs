@@ -18,6 +18,7 @@ pub fn runs(tally: &mut Tally, dice: &mut Dice) {
     for count in [1, 2, 100] {
         whole(&Film::any(count, dice), tally, dice);
     }
+    whole(&Film::of(shapes::GREAT[0], 3, dice), tally, dice);
     for _ in 0..6 {
         let count = dice.between(1, 20) as usize;
         whole(&Film::any(count, dice), tally, dice);
@@ -41,9 +42,8 @@ struct Film {
 }
 
 impl Film {
-    /// In range, some of them alike, and at some sites of two levels alone.
-    fn any(count: usize, dice: &mut Dice) -> Self {
-        let shape = shapes::legal(dice);
+    /// In range, and at every third site of two levels alone.
+    fn of(shape: Shape, count: usize, dice: &mut Dice) -> Self {
         let mut mask = windows::mask(shape.sites(), dice);
         // One of each, so that what unsurveyed sites hold can be changed.
         mask[..2].copy_from_slice(&[0, 1]);
@@ -63,6 +63,10 @@ impl Film {
             mask,
             frames,
         }
+    }
+
+    fn any(count: usize, dice: &mut Dice) -> Self {
+        Film::of(shapes::legal(dice), count, dice)
     }
 
     fn run(&self) -> Run<'_> {
@@ -97,9 +101,10 @@ fn with_frame(asked: &Asked<Add>) -> Stack {
 
 /// Adds a frame in range.
 fn add(tally: &mut Tally, stack: Stack, frame: &[u16]) -> Asked<Add> {
+    let frames = stack.frames;
     let frame = Lent::new("frame", frame.to_vec());
     let asked = tally.ask(Add { stack, frame });
-    let law = blinking::possible(&asked.answers.found);
+    let law = blinking::counted_up(frames, &asked.answers.found);
     tally.demand("frame in range added", law, &asked);
     asked
 }

@@ -450,7 +450,8 @@ fn told_of_refusals(
     assert_eq!(first, answer.number, "the tests make up the refusals");
     let mut told = orders(&tests);
     told.extend(lengths(buffers, answer.number));
-    if [0, 11, 12].contains(&answer.number) {
+    // 11 is asked site by site, so large windows tell no more of it, and take long.
+    if [0, 11, 12].contains(&answer.number) && stack.mask.len() <= 1024 {
         told.extend(impossible::told(stack).iter().map(|name| name.to_string()));
     }
     if answer.number == 11 && first_impossible > Some(0) {
@@ -842,6 +843,7 @@ impl Run<'_> {
 
 const ORDER: &str = "frames in another order leave another stack";
 const ENDS: &str = "least and greatest are not those of the frames";
+const COUNTED_UP: &str = "a frame in range is not taken in";
 const POSSIBLE: &str = "what frames in range gave is refused with 11";
 const APART: &str = "the count is not that of the sites where two frames are so far apart";
 const MORE: &str = "more sites blink at a greater spread";
@@ -862,6 +864,12 @@ pub fn ends(run: Run, left: &Buffers) -> Law {
     let of_stack = |site: usize| (Some(left.least[site]), Some(left.greatest[site]));
     let mut sites = surveyed(run.mask);
     keep(sites.all(|site| of_frames(site) == of_stack(site)), ENDS)
+}
+
+/// A frame in range is offered to a stack of so many, 99 at most, that frames in range gave.
+pub fn counted_up(frames: u64, answer: &Answer) -> Law {
+    let right = settle(Ok(vec![i128::from(frames) + 1]), 1);
+    keep(*answer == right, COUNTED_UP)
 }
 
 /// What any call answers to a stack that frames in range gave.
@@ -1175,7 +1183,7 @@ mod tests {
     }
 
     #[test]
-    fn limits_of_3_are_told() {
+    fn limits_of_the_spread_are_told() {
         let slips = &BLINKING_KINDS[2][23..];
         assert_eq!(slips[0], "spread of 0 accepted");
         let told = |spread| of(slips, &blinking(TWO, spread));
@@ -1200,6 +1208,12 @@ mod tests {
         assert_eq!(of(&wide, &blinking(TWO, (1 << 12) + 5)), wide[..1]);
         assert_eq!(of(&wide, &blinking(TWO, (1 << 16) + 5)), wide[..2]);
         assert_eq!(of(&wide, &blinking(TWO, (1 << 32) + 5)), wide);
+    }
+
+    #[test]
+    fn frame_counts_are_told() {
+        let slips = &BLINKING_KINDS[2][33..];
+        assert_eq!(slips[0], "no frame accepted");
         let counts = |frames, told: &[&str]| {
             let stack = Stack {
                 least: &[0; 4],
@@ -1207,14 +1221,14 @@ mod tests {
                 frames,
                 ..TWO
             };
-            assert_eq!(of(&slips[10..], &blinking(stack, 2)), told);
+            assert_eq!(of(slips, &blinking(stack, 2)), told);
         };
         counts(1, &["one frame refused", "7 with one frame"]);
         counts(2, &[]);
         counts(100, &["100 frames refused"]);
         counts(101, &["101 frames accepted"]);
         counts(102, &[]);
-        let empty = of(&slips[10..], &blinking(EMPTY, 1));
+        let empty = of(slips, &blinking(EMPTY, 1));
         assert_eq!(empty, ["no frame accepted", "7 for no frame"]);
     }
 
@@ -1304,6 +1318,9 @@ mod tests {
         assert_eq!(never_more(&accepted(2), &refused(3)), Err(MORE));
         assert_eq!(none(&accepted(0)), Ok(()));
         assert_eq!(none(&accepted(1)), Err(NONE));
+        assert_eq!(counted_up(99, &accepted(100)), Ok(()));
+        assert_eq!(counted_up(99, &accepted(99)), Err(COUNTED_UP));
+        assert_eq!(counted_up(99, &refused(11)), Err(COUNTED_UP));
         assert_eq!(possible(&refused(7)), Ok(()));
         assert_eq!(possible(&refused(11)), Err(POSSIBLE));
         assert_eq!(given(true, &refused(11)), Ok(()));
