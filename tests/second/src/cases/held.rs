@@ -230,7 +230,8 @@ pub fn one_off(held: Held, turn: usize) -> Held {
     off
 }
 
-/// All numbers up to 3, or up to 2, at full scale 1.
+/// All sums and squares up to 3, with all least and greatest up to 2: around every condition where full
+/// scale is 1.
 pub fn every_small() -> impl Iterator<Item = Held> {
     (0..4 * 4 * 3 * 3).map(|number| of(number % 4, number / 4 % 4, number / 16 % 3, number / 48))
 }

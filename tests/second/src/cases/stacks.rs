@@ -215,13 +215,8 @@ pub fn common(
             .map(|&shape| Stack::of_shape(shape, dice)),
     );
     for &full_scale in windows::FULL_SCALES {
-        let bare = Stack::of(
-            least,
-            full_scale.clamp(1, 4095),
-            2,
-            vec![0; least.sites()],
-            dice,
-        );
+        let (legal, mask) = (full_scale.clamp(1, 4095), vec![0; least.sites()]);
+        let bare = Stack::of(least, legal, 2, mask, dice);
         stacks.push(Stack { full_scale, ..bare });
     }
     for &frames in FRAME_COUNTS {
@@ -231,6 +226,16 @@ pub fn common(
             stacks.push(Stack { frames, ..fitting });
         }
     }
+    codes(least, dice, &mut stacks);
+    wrong_lengths(least, dice, &mut stacks);
+    sum_limits(least, dice, &mut stacks);
+    for stack in stacks {
+        ask(tally, stack, dice);
+    }
+}
+
+/// Every kind of code at one site, alone and with a site that is impossible.
+fn codes(least: Shape, dice: &mut Dice, stacks: &mut Vec<Stack>) {
     for site in [0, 1, dice.below(least.sites()), least.sites() - 1] {
         for code in [0, 1, 2, 3, 4, 5, 128, 255] {
             let mut stack = Stack::of_mask(least, vec![0; least.sites()], dice);
@@ -239,11 +244,6 @@ pub fn common(
             stack.tamper(dice);
             stacks.push(stack);
         }
-    }
-    wrong_lengths(least, dice, &mut stacks);
-    sum_limits(least, dice, &mut stacks);
-    for stack in stacks {
-        ask(tally, stack, dice);
     }
 }
 

@@ -3,8 +3,9 @@
 //! do with each other.
 //!
 //! Some slips are left out, since they give no other answer. The greater of 0 and the sample for the
-//! first frame. The greater only where the sample is not the lesser: past 11 no sample after the first
-//! is both. Greatest and least in any order in a spread's size: past 11 they are in theirs.
+//! first frame: that is the sample. Greatest not asked where the sample is below least: past 11 no
+//! later sample is above greatest too. The size of the difference for greatest less least: past 11
+//! it is not below 0.
 
 use crate::impossible;
 use crate::refusals::{lengths, orders, Length, Sides, Test};
