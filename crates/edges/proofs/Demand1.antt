@@ -25,12 +25,16 @@ use Rattle.dark.specs.Dark.{darkVerdict, darkPaper}
 use Rattle.dark.specs.Dark as levels
 use Rattle.dark.proofs.Levels as dark-table
 use Rattle.dark.proofs.Promises as dark
-use Rattle.stack.specs.Add.{addVerdict, addPaper, addSums, addSquares}
-use Rattle.stack.specs.Add as adding
-use Rattle.stack.specs.Variance as variance
-use Rattle.stack.proofs.Adds as add-table
-use Rattle.stack.proofs.Variances as variance-table
-use Rattle.stack.proofs.Promises as stack
+use Rattle.stack.specs.State.{Stack}
+use Rattle.adding.specs.Add.{addVerdict, addAnswer, addPaperOf, addPaper, addStack}
+use Rattle.adding.proofs.Adds as add-table
+use Rattle.adding.proofs.Promises as adding
+use Rattle.variance.specs.Variance.{varianceVerdict, noVariance, varianceAnswer, variancePaperOf, variancePaper}
+use Rattle.variance.proofs.Variances as variance-table
+use Rattle.variance.proofs.Promises as variance
+use Rattle.blinking.specs.Blinking.{blinkingVerdict, blinkingAnswer, blinkingPaperOf, blinkingPaper}
+use Rattle.blinking.proofs.Blinkings as blinking-table
+use Rattle.blinking.proofs.Promises as blinking
 use Rattle.pattern.specs.Lines as pattern-lines
 use Rattle.pattern.specs.Figures.{noFigures}
 use Rattle.pattern.specs.Pattern.{patternVerdict, patternPaper}
@@ -103,14 +107,19 @@ pub record Demand1 : Type 0 where
       → let paper = darkPaper w h full black mask frame in
       RefusingOver (darkVerdict w h full black mask frame) (dark-table.tests w h full black mask frame) paper (overFull w h full (seen mask frame))
       (paper .figures ≡ levels.noFigures)
-  pub stack-add : (w h full k : ℕ) (mask frame sums squares : List ℕ)
-      → let paper = addPaper w h full k mask frame sums squares in
-      RefusingOver (addVerdict w h full k mask frame sums squares) (add-table.tests w h full k mask frame sums squares) paper (overFull w h full (seen mask frame))
-      ((paper .figures ≡ 0) × (addSums w h full k mask frame sums squares ≡ sums) × (addSquares w h full k mask frame sums squares ≡ squares))
-  pub stack-variance : (w h full k : ℕ) (mask sums squares : List ℕ)
-      → let paper = variance.variancePaper w h full k mask sums squares in
-      Refusing (variance.varianceVerdict w h full k mask sums squares) (variance-table.tests w h full k mask sums squares) paper
-      (paper .figures ≡ variance.noVariance)
+  -- a stack is the count of its frames and four buffers, sums, squares, least and greatest: all of it is as it was
+  pub stack-add : (w h full : ℕ) (mask frame : List ℕ) (s : Stack)
+      → let paper = addPaper w h full mask frame s in
+      RefusingOver (addVerdict w h full mask frame s) (add-table.tests w h full mask frame s) paper (overFull w h full (seen mask frame))
+      ((paper .figures ≡ 0) × (addStack w h full mask frame s ≡ s))
+  pub stack-variance : (w h full : ℕ) (mask : List ℕ) (s : Stack)
+      → let paper = variancePaper w h full mask s in
+      Refusing (varianceVerdict w h full mask s) (variance-table.tests w h full mask s) paper
+      (paper .figures ≡ noVariance)
+  pub blinking-sites : (w h full spread : ℕ) (mask : List ℕ) (s : Stack)
+      → let paper = blinkingPaper w h full spread mask s in
+      Refusing (blinkingVerdict w h full spread mask s) (blinking-table.tests w h full spread mask s) paper
+      (paper .figures ≡ 0)
   -- of columns it is the vertical call, of rows the horizontal one
   pub pattern-noise : (lines : ℕ → ℕ → pattern-lines.Lines) (w h full k : ℕ) (mask sums : List ℕ)
       → let paper = patternPaper lines w h full k mask sums in
@@ -167,13 +176,14 @@ pub record Demand1 : Type 0 where
       (paper .figures ≡ jobs.noFigures)
 
 pub demand-1 : Demand1
-unfolding unpackPaper pairPaper darkPaper addPaper variance.variancePaper patternPaper findPaper repairPaper linesPaper colourPaper transferPaper tablePaper recodePaper judgePaper jobPaper
+unfolding unpackPaper pairPaper darkPaper addPaper variancePaper blinkingPaper patternPaper findPaper repairPaper linesPaper colourPaper transferPaper tablePaper recodePaper judgePaper jobPaper
 demand-1 = record {
   unpack-raw10 = λ w h bytes out. record { given = raw.given w h bytes out; told = (refl, refl, never-over _ (raw.given w h bytes out) refl refl); refused = raw.refused w h bytes out };
   pair-figures = λ w h full mask first second. record { given = pair.given w h full mask first second; told = (refl, refl, refl); refused = pair.refused w h full mask first second };
   dark-level = λ w h full black mask frame. record { given = dark.given w h full black mask frame; told = (refl, refl, refl); refused = dark.refused w h full black mask frame };
-  stack-add = λ w h full k mask frame sums squares. record { given = stack.add-given w h full k mask frame sums squares; told = (refl, refl, refl); refused = stack.add-refused w h full k mask frame sums squares };
-  stack-variance = λ w h full k mask sums squares. record { given = stack.variance-given w h full k mask sums squares; told = (refl, refl, never-over _ (stack.variance-given w h full k mask sums squares) refl refl); refused = stack.variance-refused w h full k mask sums squares };
+  stack-add = λ w h full mask frame s. record { given = adding.add-given w h full mask frame s; told = (refl, refl, refl); refused = adding.add-refused w h full mask frame s };
+  stack-variance = λ w h full mask s. record { given = variance.variance-given w h full mask s; told = (refl, refl, never-over _ (variance.variance-given w h full mask s) refl refl); refused = variance.variance-refused w h full mask s };
+  blinking-sites = λ w h full spread mask s. record { given = blinking.given w h full spread mask s; told = (refl, refl, never-over _ (blinking.given w h full spread mask s) refl refl); refused = blinking.refused w h full spread mask s };
   pattern-noise = λ lines w h full k mask sums. record { given = pattern.given lines w h full k mask sums; told = (refl, refl, never-over _ (pattern.given lines w h full k mask sums) refl refl); refused = pattern.refused lines w h full k mask sums };
   find-defects = λ w h full t mask frame out. record { given = finding.given w h full t mask frame out; told = (refl, refl, refl); refused = finding.refused w h full t mask frame out };
   repair = λ w h full mask frame outFrame outMask. record { given = repairing.given w h full mask frame outFrame outMask; told = (refl, refl, refl); refused = repairing.refused w h full mask frame outFrame outMask };
@@ -198,10 +208,12 @@ pub record Numbers : Type 0 where
       → pairs.paperOf (pairs.pairAnswer w h full mask first second) ≡ pairPaper w h full mask first second
   pub dark-level : (w h full black : ℕ) (mask frame : List ℕ)
       → levels.paperOf (levels.darkAnswer w h full black mask frame) ≡ darkPaper w h full black mask frame
-  pub stack-add : (w h full k : ℕ) (mask frame sums squares : List ℕ)
-      → adding.addPaperOf (adding.addAnswer w h full k mask frame sums squares) ≡ addPaper w h full k mask frame sums squares
-  pub stack-variance : (w h full k : ℕ) (mask sums squares : List ℕ)
-      → variance.variancePaperOf (variance.varianceAnswer w h full k mask sums squares) ≡ variance.variancePaper w h full k mask sums squares
+  pub stack-add : (w h full : ℕ) (mask frame : List ℕ) (s : Stack)
+      → addPaperOf (addAnswer w h full mask frame s) ≡ addPaper w h full mask frame s
+  pub stack-variance : (w h full : ℕ) (mask : List ℕ) (s : Stack)
+      → variancePaperOf (varianceAnswer w h full mask s) ≡ variancePaper w h full mask s
+  pub blinking-sites : (w h full spread : ℕ) (mask : List ℕ) (s : Stack)
+      → blinkingPaperOf (blinkingAnswer w h full spread mask s) ≡ blinkingPaper w h full spread mask s
   pub pattern-noise : (lines : ℕ → ℕ → pattern-lines.Lines) (w h full k : ℕ) (mask sums : List ℕ)
       → patterns.paperOf (patterns.patternAnswer lines w h full k mask sums) ≡ patternPaper lines w h full k mask sums
   pub find-defects : (w h full t : ℕ) (mask frame out : List ℕ)
@@ -232,8 +244,9 @@ numbers = record {
   unpack-raw10 = raw.paper-is;
   pair-figures = pair.paper-is;
   dark-level = dark.paper-is;
-  stack-add = stack.add-paper-is;
-  stack-variance = stack.variance-paper-is;
+  stack-add = adding.add-paper-is;
+  stack-variance = variance.variance-paper-is;
+  blinking-sites = blinking.paper-is;
   pattern-noise = pattern.paper-is;
   find-defects = finding.paper-is;
   repair = repairing.paper-is;

@@ -1,7 +1,8 @@
 -- Demand 2: in every call that takes a mask only surveyed sites count: what a frame holds at any other site changes no figure, no verdict,
 -- no refusal, nor the count that a 6 has (document 02, d). And no call turns a gap into anything else, but for the one site whose code its caller
--- asks to have changed (document 02, j). `Agree mask f g`: f and g have one length, and hold the same at every surveyed site. Answers are compared,
--- a refusal's number, place and count among them; the paper's numbers are those of the answer (`numbers` of Demand1), so they are the same too.
+-- asks to have changed (document 02, j). `Agree mask f g`: f and g have one length, and hold the same at every surveyed site; `AgreeStack mask s s′`: two
+-- stacks have as many frames, and agree so in all four buffers. Answers are compared, a refusal's number, place and count among them; the paper's numbers
+-- are those of the answer (`numbers` of Demand1), so they are the same too.
 use Prim.Native.Nat.{ℕ, _<_}
 use mathlib.Core.Bool.{true}
 use mathlib.Core.List.{List}
@@ -17,9 +18,14 @@ use Rattle.pair.specs.Pair.{pairAnswer}
 use Rattle.pair.proofs.Promises as pair
 use Rattle.dark.specs.Dark.{darkAnswer}
 use Rattle.dark.proofs.Promises as dark
-use Rattle.stack.specs.Add.{addAnswer, addSums, addSquares}
-use Rattle.stack.specs.Variance as variance
-use Rattle.stack.proofs.Promises as stack
+use Rattle.stack.specs.State.{Stack}
+use Rattle.stack.proofs.Promises.{AgreeStack}
+use Rattle.adding.specs.Add.{addAnswer, addStack}
+use Rattle.adding.proofs.Promises as adding
+use Rattle.variance.specs.Variance.{varianceAnswer}
+use Rattle.variance.proofs.Promises as variance
+use Rattle.blinking.specs.Blinking.{blinkingAnswer}
+use Rattle.blinking.proofs.Promises as blinking
 use Rattle.pattern.specs.Lines as pattern-lines
 use Rattle.pattern.specs.Pattern.{patternAnswer}
 use Rattle.pattern.proofs.Promises as pattern
@@ -49,19 +55,19 @@ pub record Blind : Type 0 where
       → pairAnswer w h full mask first second ≡ pairAnswer w h full mask first′ second′
   pub dark-level : (w h full black : ℕ) (mask frame other : List ℕ) → Agree mask frame other
       → darkAnswer w h full black mask frame ≡ darkAnswer w h full black mask other
-  -- a frame, and a stack's sums; other sites' sums stay as they were
-  pub stack-add : (w h full k : ℕ) (mask frame sums squares frame′ sums′ squares′ : List ℕ)
-      → Agree mask frame frame′ → Agree mask sums sums′ → Agree mask squares squares′
-      → addAnswer w h full k mask frame sums squares ≡ addAnswer w h full k mask frame′ sums′ squares′
-  pub stack-sums : (w h full k : ℕ) (mask frame sums squares frame′ sums′ squares′ : List ℕ)
-      → Agree mask frame frame′ → Agree mask sums sums′ → Agree mask squares squares′ → (i : ℕ) → surveyed (getD mask i 0) ≡ true
-      → (getD (addSums w h full k mask frame sums squares) i 0 ≡ getD (addSums w h full k mask frame′ sums′ squares′) i 0)
-      × (getD (addSquares w h full k mask frame sums squares) i 0 ≡ getD (addSquares w h full k mask frame′ sums′ squares′) i 0)
-  pub stack-keeps : (w h full k : ℕ) (mask frame sums squares : List ℕ) (i : ℕ) → (getD mask i 0 ≡ 0 → ⊥)
-      → (getD (addSums w h full k mask frame sums squares) i 0 ≡ getD sums i 0)
-      × (getD (addSquares w h full k mask frame sums squares) i 0 ≡ getD squares i 0)
-  pub stack-variance : (w h full k : ℕ) (mask sums squares sums′ squares′ : List ℕ) → Agree mask sums sums′ → Agree mask squares squares′
-      → variance.varianceAnswer w h full k mask sums squares ≡ variance.varianceAnswer w h full k mask sums′ squares′
+  -- a frame, and a stack's buffers: the answer, and what all four buffers hold afterwards at each surveyed site (`adding.SameAt`)
+  pub stack-add : (w h full : ℕ) (mask frame : List ℕ) (s : Stack) (frame′ : List ℕ) (s′ : Stack) → Agree mask frame frame′ → AgreeStack mask s s′
+      → addAnswer w h full mask frame s ≡ addAnswer w h full mask frame′ s′
+  pub stack-holds : (w h full : ℕ) (mask frame : List ℕ) (s : Stack) (frame′ : List ℕ) (s′ : Stack) → Agree mask frame frame′ → AgreeStack mask s s′
+      → (i : ℕ) → surveyed (getD mask i 0) ≡ true
+      → adding.SameAt i (addStack w h full mask frame s) (addStack w h full mask frame′ s′)
+  -- at any other site all four stay as they were
+  pub stack-keeps : (w h full : ℕ) (mask frame : List ℕ) (s : Stack) (i : ℕ) → (getD mask i 0 ≡ 0 → ⊥)
+      → adding.SameAt i (addStack w h full mask frame s) s
+  pub stack-variance : (w h full : ℕ) (mask : List ℕ) (s s′ : Stack) → AgreeStack mask s s′
+      → varianceAnswer w h full mask s ≡ varianceAnswer w h full mask s′
+  pub blinking-sites : (w h full spread : ℕ) (mask : List ℕ) (s s′ : Stack) → AgreeStack mask s s′
+      → blinkingAnswer w h full spread mask s ≡ blinkingAnswer w h full spread mask s′
   -- of columns it is the vertical call, of rows the horizontal one
   pub pattern-noise : (lines : ℕ → ℕ → pattern-lines.Lines) (w h full k : ℕ) (mask : List ℕ) {sums others : List ℕ} → Agree mask sums others
       → patternAnswer lines w h full k mask sums ≡ patternAnswer lines w h full k mask others
@@ -123,10 +129,11 @@ demand-2 = record {
     samples-over = λ w h full a. rw (same-view a);
     pair-figures = λ w h full a b. pair.blind w h full a b;
     dark-level = dark.blind;
-    stack-add = stack.add-blind;
-    stack-sums = stack.add-blind-sums;
-    stack-keeps = stack.add-keeps;
-    stack-variance = stack.variance-blind;
+    stack-add = adding.add-blind;
+    stack-holds = adding.add-blind-stack;
+    stack-keeps = adding.add-keeps;
+    stack-variance = variance.variance-blind;
+    blinking-sites = blinking.blind;
     pattern-noise = λ lines w h full k mask a. pattern.blind lines w h full k mask a;
     find-defects = finding.blind;
     repair = repairing.blind;

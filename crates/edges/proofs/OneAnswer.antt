@@ -10,9 +10,13 @@ use Rattle.pair.specs.Pair.{pairAnswer}
 use Rattle.pair.proofs.Promises as pair
 use Rattle.dark.specs.Dark.{darkAnswer}
 use Rattle.dark.proofs.Promises as dark
-use Rattle.stack.specs.Add.{addAnswer, addSums, addSquares}
-use Rattle.stack.specs.Variance as variance
-use Rattle.stack.proofs.Promises as stack
+use Rattle.stack.specs.State.{Stack}
+use Rattle.adding.specs.Add.{addAnswer, addStack}
+use Rattle.adding.proofs.Promises as adding
+use Rattle.variance.specs.Variance.{varianceAnswer}
+use Rattle.variance.proofs.Promises as variance
+use Rattle.blinking.specs.Blinking.{blinkingAnswer}
+use Rattle.blinking.proofs.Promises as blinking
 use Rattle.pattern.specs.Lines as pattern-lines
 use Rattle.pattern.specs.Pattern.{patternAnswer}
 use Rattle.pattern.proofs.Promises as pattern
@@ -40,11 +44,11 @@ pub record OneAnswer : Type 0 where
       → Sole (unpackAnswer w h (length bytes) (length out)) × Sole (unpackBuffer w h bytes out)
   pub pair-figures : (w h full : ℕ) (mask first second : List ℕ) → Sole (pairAnswer w h full mask first second)
   pub dark-level : (w h full black : ℕ) (mask frame : List ℕ) → Sole (darkAnswer w h full black mask frame)
-  pub stack-add : (w h full k : ℕ) (mask frame sums squares : List ℕ)
-      → Sole (addAnswer w h full k mask frame sums squares)
-      × Sole (addSums w h full k mask frame sums squares)
-      × Sole (addSquares w h full k mask frame sums squares)
-  pub stack-variance : (w h full k : ℕ) (mask sums squares : List ℕ) → Sole (variance.varianceAnswer w h full k mask sums squares)
+  -- the stack afterwards: each of its four buffers at exit is a field of it
+  pub stack-add : (w h full : ℕ) (mask frame : List ℕ) (s : Stack)
+      → Sole (addAnswer w h full mask frame s) × Sole (addStack w h full mask frame s)
+  pub stack-variance : (w h full : ℕ) (mask : List ℕ) (s : Stack) → Sole (varianceAnswer w h full mask s)
+  pub blinking-sites : (w h full spread : ℕ) (mask : List ℕ) (s : Stack) → Sole (blinkingAnswer w h full spread mask s)
   pub pattern-noise : (lines : ℕ → ℕ → pattern-lines.Lines) (w h full k : ℕ) (mask sums : List ℕ)
       → Sole (patternAnswer lines w h full k mask sums)
   pub find-defects : (w h full t : ℕ) (mask frame out : List ℕ)
@@ -82,8 +86,9 @@ one-answer = record {
   unpack-raw10 = raw.only;
   pair-figures = pair.only;
   dark-level = dark.only;
-  stack-add = stack.add-only;
-  stack-variance = stack.variance-only;
+  stack-add = adding.add-only;
+  stack-variance = variance.variance-only;
+  blinking-sites = blinking.only;
   pattern-noise = pattern.only;
   find-defects = finding.only;
   repair = repairing.only;
