@@ -17,6 +17,11 @@ use Rattle.raw.specs.Unpack.{unpackVerdict, unpackAnswer, unpackBuffer}
 use Rattle.pair.specs.Figures.{numerator, spreadOf}
 use Rattle.pair.specs.Pair.{pairVerdict, pairAnswer}
 use Rattle.dark.specs.Dark.{aboveBlack, darkVerdict, darkAnswer}
+use Rattle.stack.specs.State as stack
+use Rattle.adding.specs.After.{renewed, extreme, extremeAt}
+use Rattle.adding.specs.Add.{addVerdict, addAnswer, addStack}
+use Rattle.variance.specs.Variance.{tooFew, varianceVerdict, scatter, varianceAnswer}
+use Rattle.blinking.specs.Blinking.{badSpread, blinksAt, blinkingVerdict, blinkingAnswer}
 use Rattle.pattern.specs.Lines.{lineTotal}
 use Rattle.pattern.specs.Figures.{stepOf, tenAround, standsOut, deviation, figuresOf}
 use Rattle.pattern.specs.Pattern.{patternVerdict, patternAnswer}
@@ -33,7 +38,7 @@ use Rattle.gain.specs.Gain.{outOfLimits, badLength, badList, badEnds, tooLarge,
 use Rattle.blocks.specs.Areas.{blocksOf, areaOf, areaSites}
 use Rattle.shading.specs.Shade.{unseen, tooDark, fails, judgedShade, shadeOf}
 use Rattle.shading.specs.Judge.{badLimit, impossible, impossibleIn, lentVerdict, judgeVerdict, planesOf, tintOf, shadeIn, judgeAnswer, judgeBuffer}
-use Rattle.edges.specs.Table.{Edges, Beside, Transfers, Shadings}
+use Rattle.edges.specs.Table.{Edges, Beside, Transfers, Shadings, Stacks}
 
 pub edges : Edges
 unfolding round ofBits firstTo greatestTo greatestIn _⊖_ sumToℤ sumTo sumIn sumBox tabulate shapeOf maskVerdict frameVerdict boxSum badSide badSides badScale sitesOf _⨟_ refuseWith refuseFirst samplesIn overIn seenAt seen one root rootTo joined sampleAt unpackVerdict unpackAnswer unpackBuffer numerator spreadOf framesVerdict pairVerdict pairAnswer aboveBlack darkVerdict darkAnswer nearSum usedThreshold far foundAt markedAt foundCount findVerdict findAnswer findMask lineTotal stepOf tenAround standsOut deviation figuresOf badCount patternVerdict patternAnswer before after pooled defective markOf markAt linesVerdict linesAnswer linesBuffer
@@ -110,4 +115,24 @@ shadings = record {
   row-over = refl;
   too-small = refl;
   length-first = (refl, refl);
+}
+
+pub stacks : Stacks
+unfolding round firstTo sumTo tabulate badCount badSide badSides badScale sitesOf seen one shapeOf samplesIn maskVerdict frameVerdict stack.sumsImpossible stack.extremesImpossible stack.emptyExtremes stack.impossible stack.impossibleIn renewed extreme extremeAt addVerdict addAnswer addStack tooFew varianceVerdict scatter varianceAnswer badSpread blinksAt blinkingVerdict blinkingAnswer
+stacks = record {
+  first-frame = (refl, refl);
+  second-frame = (refl, refl);
+  spread-800 = refl;
+  spread-801 = refl;
+  spread-1 = refl;
+  no-frame = refl;
+  both-frames = refl;
+  greatest-1023 = refl;
+  greatest-1024 = (refl, refl, refl, refl, refl);
+  above-full-scale = (refl, refl);
+  sum-below = (refl, refl);
+  sum-above = (refl, refl);
+  empty-greatest = (refl, refl);
+  empty-squares = (refl, refl);
+  squares-below = (refl, refl);
 }

@@ -15,6 +15,16 @@ use Rattle.pair.specs.Pair.{pairAnswer}
 use Rattle.pair.specs.declared.Pair.the-variants as pair
 use Rattle.dark.specs.Dark.{darkAnswer}
 use Rattle.dark.specs.declared.Dark.the-variants as dark
+use Rattle.stack.specs.State.{Stack, stackOf, sumsImpossible, impossible}
+use Rattle.adding.specs.Add.{addAnswer, addStack}
+use Rattle.adding.specs.Run.{empty}
+use Rattle.adding.specs.declared.Added.the-variants as adding
+use Rattle.variance.specs.Variance.{varianceAnswer}
+use Rattle.variance.specs.declared.Variance.{Variance}
+use Rattle.variance.specs.declared.Variance.the-variants as variance
+use Rattle.blinking.specs.Blinking.{blinkingAnswer}
+use Rattle.blinking.specs.declared.Blinking.{Blinking}
+use Rattle.blinking.specs.declared.Blinking.the-variants as blinking
 use Rattle.pattern.specs.Lines as pattern-lines
 use Rattle.pattern.specs.Pattern.{patternAnswer}
 use Rattle.pattern.specs.declared.Pattern.the-variants as pattern
@@ -265,3 +275,57 @@ pub record Shadings : Type 0 where
   pub too-small : judgeAnswer (asked 62 48 1023 64 0 1) (lengths 4 4 4 4) (all 12 0) (all 12 0) ≡ shading.Refused (refusal 9 0)
   pub length-first : (judgeAnswer (asked 62 48 1023 64 0 1) (lengths 4 4 4 4) (all 20 0) (all 20 0) ≡ shading.Refused (refusal 4 0))
       × (judgeAnswer (asked 62 48 1023 64 0 1) (lengths 8 8 8 8) (all 12 0) (all 12 0) ≡ shading.Refused (refusal 4 0))
+
+-- document 02 i, 2 × 2: all sites at 500 but site 0
+abbrev jumping : ℕ → List ℕ
+jumping sample = but 4 500 0 sample
+
+-- the stack of one such frame, with site 0 at 100
+abbrev begun : Stack
+begun = stackOf 1 (jumping 100) (but 4 250000 0 10000) (jumping 100) (jumping 100)
+
+-- the stack of two, with site 0 at 100 and then at 900, so that its sum is that of the others; and with this greatest sample there
+abbrev jumped : ℕ → Stack
+jumped greatest = stackOf 2 (all 4 1000) (but 4 500000 0 820000) (jumping 100) (jumping greatest)
+
+-- with every site surveyed, and full scale 1023: a frame is added to a stack, and leaves this one
+abbrev Leads : List ℕ → Stack → Stack → Type 0
+Leads frame before after = (addAnswer 2 2 1023 (all 4 0) frame before ≡ adding.Frames (after .frames)) × (addStack 2 2 1023 (all 4 0) frame before ≡ after)
+
+-- the variance of a stack is answered so
+abbrev Varies : Stack → Variance → Type 0
+Varies s answer = varianceAnswer 2 2 1023 (all 4 0) s ≡ answer
+
+-- and so its blinking sites at a spread
+abbrev Blinks : ℕ → Stack → Blinking → Type 0
+Blinks spread s answer = blinkingAnswer 2 2 1023 spread (all 4 0) s ≡ answer
+
+pub record Stacks : Type 0 where
+  -- the first sample of a site is its least and its greatest
+  pub first-frame : Leads (jumping 100) (empty 4) begun
+  pub second-frame : Leads (jumping 900) begun (jumped 900)
+  -- the spread of site 0 is 800, that of the others 0
+  pub spread-800 : Blinks 800 (jumped 900) (blinking.Sites 1)
+  pub spread-801 : Blinks 801 (jumped 900) (blinking.Sites 0)
+  pub spread-1 : Blinks 1 (jumped 900) (blinking.Sites 1)
+  -- no frame in
+  pub no-frame : Blinks 800 (empty 4) (blinking.Refused (refusal 3 0))
+  -- the variance is 640000/16, 625 × 2⁶, whatever the greatest sample is that 11 lets pass
+  pub both-frames : Varies (jumped 900) (variance.Figures 640000 16 (fin false 625 (pos 6)))
+  pub greatest-1023 : Varies (jumped 1023) (variance.Figures 640000 16 (fin false 625 (pos 6)))
+  -- 1024, above full scale, gets 11 in all three calls; document 01's 11, which asked s and q alone, let site 0 and the others pass
+  pub greatest-1024 : (sumsImpossible 1023 2 1000 820000 ≡ false)
+      × (sumsImpossible 1023 2 1000 500000 ≡ false)
+      × (addAnswer 2 2 1023 (all 4 0) (jumping 900) (jumped 1024) ≡ adding.Refused (refusal 11 0))
+      × Varies (jumped 1024) (variance.Refused (refusal 11 0))
+      × Blinks 800 (jumped 1024) (blinking.Refused (refusal 11 0))
+  -- 11 at one site, of full scale, k, s, q, least and greatest: one test alone refuses, and with one number changed by 1 none does.
+  -- Greatest above full scale; s below k × least; s above k × greatest
+  pub above-full-scale : (impossible 1 1 0 0 0 2 ≡ true) × (impossible 1 1 0 0 0 1 ≡ false)
+  pub sum-below : (impossible 1 1 0 0 1 1 ≡ true) × (impossible 1 1 0 0 0 1 ≡ false)
+  pub sum-above : (impossible 1 1 1 1 0 0 ≡ true) × (impossible 1 1 1 1 0 1 ≡ false)
+  -- no frame in: greatest above 0; q above k × full scale²
+  pub empty-greatest : (impossible 1 0 0 0 0 1 ≡ true) × (impossible 1 0 0 0 0 0 ≡ false)
+  pub empty-squares : (impossible 1 0 0 1 0 0 ≡ true) × (impossible 1 0 0 0 0 0 ≡ false)
+  -- k × q below s²
+  pub squares-below : (impossible 1 1 1 0 0 1 ≡ true) × (impossible 1 1 1 1 0 1 ≡ false)
