@@ -1,15 +1,15 @@
 -- A stack that is lent: when it can be walked, and what 11 lets pass at a site.
-use Prim.Native.Nat.{ℕ, _*_, _≤_, _<_}
+use Prim.Native.Nat.{ℕ, _+_, _*_, _≤_, _<_, zero-le}
 use mathlib.Core.Bool.{true, false, _||_, _&&_}
 use mathlib.Core.List.{List, [], _∷_}
-use mathlib.Core.Logic.{⊎-elim}
-use mathlib.Core.Path.{_≡_, sym, _∙_}
-use native.Mathlib.Nat.{mul-le-mul-left}
+use mathlib.Core.Logic.{_⊎_, inl, inr, ⊎-elim}
+use mathlib.Core.Path.{_≡_, refl, sym, _∙_}
+use native.Mathlib.Nat.{mul-add, mul-le-mul-left}
 use native.Mathlib.Omega.{arith}
 use lib.Dec.{eqb, ltb, leb}
 use lib.ListN.{length}
-use borrow.Author.Tests.{le-ltb, ltb-false, leb-true, le-leb, eqb-true, eqb-false, eq-eqb}
-use Rattle.laws.proofs.Cases.{neither, and-true, both-ways, true-or-false}
+use borrow.Author.Tests.{le-ltb, ltb-false, leb-true, le-leb, eqb-true, eqb-false, eq-eqb, ne-eqb}
+use Rattle.laws.proofs.Cases.{lt-or-ge, neither, and-true, both-ways, true-or-false}
 use Rattle.laws.proofs.Firsts.{first-nowhere, nowhere-first}
 use Rattle.verdict.specs.declared.Verdict.the-variants.{Clear}
 use Rattle.verdict.proofs.Verdicts.{Test, Tabled, test, tabled, then-clear, clear-then}
@@ -20,7 +20,7 @@ use Rattle.refusals.specs.Judge.{otherThan}
 use Rattle.refusals.proofs.Chains.{length-clear, clear-length}
 use Rattle.refusals.proofs.Judges.{Masked}
 use Rattle.stack.specs.State.{Stack, stackLengths, sumsImpossible, extremesImpossible, emptyExtremes, impossible, impossibleAt, impossibleIn}
-use Rattle.stack.specs.Walk.{readable, top, beyond, foundImpossible}
+use Rattle.stack.specs.Walk.{readable, top, orOne, beyond, foundImpossible}
 
 -- four numbers a site
 pub record Lengths (w h : ℕ) (s : Stack) : Type 0 where
@@ -61,42 +61,38 @@ module _ (w h : ℕ) (s : Stack) where
   pub lengths-tabled : Tabled (stackLengths w h s) length-tests
   lengths-tabled = tabled _ _
 
-pub record Readable (n full : ℕ) (s : Stack) : Type 0 where
+pub record Readable (n full sums squares least greatest : ℕ) : Type 0 where
   pub scale : full ≤ 4095
-  pub count : s .frames ≤ 100
-  pub sums-long : length (s .sums) ≡ n
-  pub squares-long : length (s .squares) ≡ n
-  pub least-long : length (s .least) ≡ n
-  pub greatest-long : length (s .greatest) ≡ n
+  pub sums-long : sums ≡ n
+  pub squares-long : squares ≡ n
+  pub least-long : least ≡ n
+  pub greatest-long : greatest ≡ n
 
-module _ (n full : ℕ) (s : Stack) where
-  pub readable-is : readable n full s ≡ true → Readable n full s
+module _ (n full sums squares least greatest : ℕ) where
+  pub readable-is : readable n full sums squares least greatest ≡ true → Readable n full sums squares least greatest
   unfolding readable
   readable-is e =
       let a = and-true (leb full 4095) _ e in
-      let b = and-true (leb (s .frames) 100) _ (a .1) in
-      let c = and-true (eqb (length (s .sums)) n) _ (b .1) in
-      let d = and-true (eqb (length (s .squares)) n) _ (c .1) in
-      let f = and-true (eqb (length (s .least)) n) (eqb (length (s .greatest)) n) (d .1) in
+      let b = and-true (eqb sums n) _ (a .1) in
+      let c = and-true (eqb squares n) _ (b .1) in
+      let d = and-true (eqb least n) (eqb greatest n) (c .1) in
       record {
         scale = leb-true full 4095 (a .0);
-        count = leb-true (s .frames) 100 (b .0);
-        sums-long = eqb-true (length (s .sums)) n (c .0);
-        squares-long = eqb-true (length (s .squares)) n (d .0);
-        least-long = eqb-true (length (s .least)) n (f .0);
-        greatest-long = eqb-true (length (s .greatest)) n (f .1);
+        sums-long = eqb-true sums n (b .0);
+        squares-long = eqb-true squares n (c .0);
+        least-long = eqb-true least n (d .0);
+        greatest-long = eqb-true greatest n (d .1);
       }
 
-  pub is-readable : Readable n full s → readable n full s ≡ true
+  pub is-readable : Readable n full sums squares least greatest → readable n full sums squares least greatest ≡ true
   unfolding readable
   is-readable r =
       rw (
         le-leb full 4095 (r .scale),
-        le-leb (s .frames) 100 (r .count),
-        eq-eqb (length (s .sums)) n (r .sums-long),
-        eq-eqb (length (s .squares)) n (r .squares-long),
-        eq-eqb (length (s .least)) n (r .least-long),
-        eq-eqb (length (s .greatest)) n (r .greatest-long),
+        eq-eqb sums n (r .sums-long),
+        eq-eqb squares n (r .squares-long),
+        eq-eqb least n (r .least-long),
+        eq-eqb greatest n (r .greatest-long),
       )
 
 -- what 11 does not refuse at a site
@@ -153,47 +149,95 @@ module _ (full k s q least greatest : ℕ) where
 
 -- ---- 11 by the limits of its count and full scale
 module _ (full k s q least greatest : ℕ) where
-  limited : Possible full k s q least greatest → greatest ≤ top full k
-  unfolding top
-  limited p = ⊎-elim (λ t. rw t (omega (arith, p .empty (eqb-true k 0 t) .1))) (λ f. rw f (p .in-scale)) (true-or-false (eqb k 0))
+  -- with no frames in, and with some
+  limits-none : k ≡ 0 → (top full k ≡ 0) × (orOne k ≡ 1)
+  unfolding top orOne
+  limits-none z = rw (eq-eqb k 0 z) (refl, refl)
 
-  within-limits : beyond k (k * (full * full)) (top full k) s q least greatest ≡ false → Possible full k s q least greatest
-  unfolding beyond top
+  limits-some : (k ≡ 0 → ⊥) → (top full k ≡ full) × (orOne k ≡ k)
+  unfolding top orOne
+  limits-some some = rw (ne-eqb k 0 some) (refl, refl)
+
+  -- what 11 lets pass is within the limits
+  limited : Possible full k s q least greatest → (greatest ≤ top full k) × (orOne k * least ≤ s)
+  limited p =
+      ⊎-elim
+      (λ t. let z = eqb-true k 0 t in let zeros = p .empty z in rw (limits-none z .0, limits-none z .1, zeros .0, zeros .1) (zero-le, omega arith))
+      (λ f. let some = limits-some (eqb-false k 0 f) in rw (some .0, some .1) (p .in-scale, p .sum-least))
+      (true-or-false (eqb k 0))
+
+  -- and what is within the limits has its least not above its greatest, and zeros with no frames in
+  empty-zeros : greatest ≤ top full k → orOne k * least ≤ s → s ≤ k * greatest → k ≡ 0 → (least ≡ 0) × (greatest ≡ 0)
+  empty-zeros high low sum z =
+      let top-none : greatest ≤ 0 = rw (limits-none z .0) at high in
+      let low-none : 1 * least ≤ s = rw (limits-none z .1) at low in
+      let none : s ≤ 0 * greatest = rw z at sum in
+      (omega arith, omega arith)
+
+  ordered-sums : (k ≡ 0 → ⊥) → k * least ≤ s → s ≤ k * greatest → least ≤ greatest
+  ordered-sums some low sum =
+      ⊎-elim
+      (λ above. let next : greatest + 1 ≤ least = omega arith in absurd (some (omega (arith, mul-le-mul-left k next, mul-add k greatest 1))))
+      (λ below. below)
+      (lt-or-ge greatest least)
+
+  within-limits : beyond k (orOne k) (k * (full * full)) (top full k) s q least greatest ≡ false → Possible full k s q least greatest
+  unfolding beyond
   within-limits e =
-      let a = neither (ltb greatest least) _ e in
-      let b = neither (ltb (top full k) greatest) _ (a .1) in
-      let c = neither (ltb (k * (full * full)) q) _ (b .1) in
-      let d = neither (ltb s (k * least)) _ (c .1) in
-      let f = neither (ltb (k * greatest) s) (ltb (k * q) (s * s)) (d .1) in
-      let ordered = ltb-false greatest least (a .0) in
-      let most = ltb-false (top full k) greatest (b .0) in
-      let in-scale : greatest ≤ full = ⊎-elim (λ t. omega (arith, rw t at most)) (λ f. rw f at most) (true-or-false (eqb k 0)) in
-      let sum-most = ltb-false (k * greatest) s (f .0) in
-      record {
-        sum = omega (arith, sum-most, mul-le-mul-left k in-scale);
-        square = ltb-false (k * (full * full)) q (c .0);
-        scatter = ltb-false (k * q) (s * s) (f .1);
-        ordered = ordered;
-        in-scale = in-scale;
-        sum-least = ltb-false s (k * least) (d .0);
-        sum-most = sum-most;
-        empty = λ z. let none : greatest ≤ 0 = rw (eq-eqb k 0 z) at most in (omega arith, omega arith);
-      }
+      let a = neither _ (ltb (top full k) greatest) e in
+      let b = neither _ (ltb (k * greatest) s) (a .0) in
+      let c = neither _ (ltb s (orOne k * least)) (b .0) in
+      let d = neither (ltb (k * q) (s * s)) (ltb (k * (full * full)) q) (c .0) in
+      let high = ltb-false (top full k) greatest (a .1) in
+      let sum-most = ltb-false (k * greatest) s (b .1) in
+      let low = ltb-false s (orOne k * least) (c .1) in
+      by (true-or-false (eqb k 0)) high sum-most low (ltb-false (k * (full * full)) q (d .1)) (ltb-false (k * q) (s * s) (d .0))
+    where
+      by : (eqb k 0 ≡ true) ⊎ (eqb k 0 ≡ false) → greatest ≤ top full k → s ≤ k * greatest → orOne k * least ≤ s → q ≤ k * (full * full) → s * s ≤ k * q
+          → Possible full k s q least greatest
+      by (inl t) high sum-most low square scatter =
+          let z = eqb-true k 0 t in
+          let zeros = empty-zeros high low sum-most z in
+          let in-scale : greatest ≤ full = omega (arith, zeros) in
+          record {
+            sum = omega (arith, sum-most, mul-le-mul-left k in-scale);
+            square = square;
+            scatter = scatter;
+            ordered = omega (arith, zeros);
+            in-scale = in-scale;
+            sum-least = rw (zeros .0) (omega arith);
+            sum-most = sum-most;
+            empty = λ _. zeros;
+          }
+      by (inr f) high sum-most low square scatter =
+          let some = eqb-false k 0 f in
+          let limits = limits-some some in
+          let in-scale : greatest ≤ full = rw (limits .0) at high in
+          let sum-least : k * least ≤ s = rw (limits .1) at low in
+          record {
+            sum = omega (arith, sum-most, mul-le-mul-left k in-scale);
+            square = square;
+            scatter = scatter;
+            ordered = ordered-sums some sum-least sum-most;
+            in-scale = in-scale;
+            sum-least = sum-least;
+            sum-most = sum-most;
+            empty = λ z. absurd (some z);
+          }
 
-  -- so 11 is told by them alone: s above k × full scale, least above 0 with no frames in, and greatest above 0 then beside the bound of 0 never decide alone
-  pub by-limits : beyond k (k * (full * full)) (top full k) s q least greatest ≡ impossible full k s q least greatest
+  -- so these tests are all of 11: the others never decide alone
+  pub by-limits : beyond k (orOne k) (k * (full * full)) (top full k) s q least greatest ≡ impossible full k s q least greatest
   unfolding beyond
   by-limits =
-      both-ways (beyond k (k * (full * full)) (top full k) s q least greatest) (impossible full k s q least greatest)
+      both-ways (beyond k (orOne k) (k * (full * full)) (top full k) s q least greatest) (impossible full k s q least greatest)
       (λ e. is-possible full k s q least greatest (within-limits e))
       (λ e. let p = possible-is full k s q least greatest e in
       rw (
-        le-ltb greatest least (p .ordered),
-        le-ltb (top full k) greatest (limited p),
-        le-ltb (k * (full * full)) q (p .square),
-        le-ltb s (k * least) (p .sum-least),
-        le-ltb (k * greatest) s (p .sum-most),
         le-ltb (k * q) (s * s) (p .scatter),
+        le-ltb (k * (full * full)) q (p .square),
+        le-ltb s (orOne k * least) (limited p .1),
+        le-ltb (k * greatest) s (p .sum-most),
+        le-ltb (top full k) greatest (limited p .0),
       ))
 
 -- ---- a whole stack
@@ -205,16 +249,15 @@ asked-whole w h full mask s m most lent =
     let long = lengths-clear w h s lent in
     let whole = sym (m .masked) in
     let r =
-    is-readable (length mask) full s
+    is-readable (length mask) full (length (s .sums)) (length (s .squares)) (length (s .least)) (length (s .greatest))
     (record {
       scale = scale full (m .scaled) .high;
-      count = most;
       sums-long = long .of-sums ∙ whole;
       squares-long = long .of-squares ∙ whole;
       least-long = long .of-least ∙ whole;
       greatest-long = long .of-greatest ∙ whole;
     }) in
-    rw (r, m .masked)
+    rw (r, le-leb (s .frames) 100 most, m .masked)
 
 -- what is seen of a stack at a site is possible
 abbrev pub PossibleAt : ℕ → List ℕ → Stack → ℕ → Type 0

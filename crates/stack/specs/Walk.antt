@@ -6,24 +6,27 @@ use lib.Dec.{eqb, ltb, leb}
 use lib.ListN.{length}
 use Rattle.stack.specs.State.{Stack, impossibleIn}
 
--- a stack that can be walked with a mask of n codes, and whose products fit
-unfoldable pub readable : ℕ → ℕ → Stack → Bool
-readable n full s =
-    leb full 4095
-    && (leb (s .frames) 100
-    && (eqb (length (s .sums)) n && (eqb (length (s .squares)) n && (eqb (length (s .least)) n && eqb (length (s .greatest)) n))))
+-- buffers of these lengths that can be walked with a mask of n codes, at a full scale whose products fit
+unfoldable pub readable : ℕ → ℕ → ℕ → ℕ → ℕ → ℕ → Bool
+readable n full sums squares least greatest =
+    leb full 4095 && (eqb sums n && (eqb squares n && (eqb least n && eqb greatest n)))
 
--- the most that a greatest sample can be: with no frames in 0
+-- the most that a greatest sample can be: 0 with no frames in
 unfoldable pub top : ℕ → ℕ → ℕ
 top full k = cond (eqb k 0) 0 full
 
--- 11 at one site by what is the same at every site: the count k, k × full scale² and the most that a greatest sample can be. What 11 asks beyond these tests
--- never decides alone (the law `by-limits`)
-unfoldable pub beyond : ℕ → ℕ → ℕ → ℕ → ℕ → ℕ → ℕ → Bool
-beyond k squares most s q least greatest =
-    ltb greatest least
-    || (ltb most greatest || (ltb squares q || (ltb s (k * least) || (ltb (k * greatest) s || ltb (k * q) (s * s)))))
+-- the count, or 1 with no frames in, where s is 0: so it is asked there, too, whether the least is above 0
+unfoldable pub orOne : ℕ → ℕ
+orOne k = cond (eqb k 0) 1 k
+
+-- 11 at one site by what is the same at every site: the count k, the count or 1, k × full scale² and the most that a greatest sample can be. The law
+-- `by-limits` says that these tests are all of 11
+unfoldable pub beyond : ℕ → ℕ → ℕ → ℕ → ℕ → ℕ → ℕ → ℕ → Bool
+beyond k once squares most s q least greatest =
+    (((ltb (k * q) (s * s) || ltb squares q) || ltb s (once * least)) || ltb (k * greatest) s) || ltb most greatest
 
 -- whether 11 is found, where the stack can be walked: any other gets 2, 3 or 4 before
 unfoldable pub foundImpossible : ℕ → List ℕ → Stack → Bool
-foundImpossible full mask s = readable (length mask) full s && impossibleIn (length mask) full mask s
+foundImpossible full mask s =
+    readable (length mask) full (length (s .sums)) (length (s .squares)) (length (s .least)) (length (s .greatest))
+    && (leb (s .frames) 100 && impossibleIn (length mask) full mask s)

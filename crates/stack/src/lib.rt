@@ -1,12 +1,12 @@
 // A stack of frames, and refusal 11 of it: document 01, "Stack", as document 02 i amends it.
 ghost use mathlib.Core.Path.{_≡_};
 ghost use mathlib.Core.Bool.{true};
-ghost use Prim.Native.Nat.{_≤_};
+ghost use Prim.Native.Nat.{_≤_, _<_};
 ghost use lib.ListN.{length};
 ghost use Rattle.verdict.specs.Verdict.{_⨟_, refuseIf};
 ghost use Rattle.refusals.specs.Judge.{lengthOf};
 ghost use Rattle.stack.specs.State.{stackOf, impossibleIn};
-ghost use Rattle.stack.specs.Walk.{readable, top, beyond, foundImpossible};
+ghost use Rattle.stack.specs.Walk.{readable, top, orOne, beyond, foundImpossible};
 use verdict::Verdict;
 
 // Refusal 4 of a stack's buffers, by their lengths.
@@ -28,47 +28,51 @@ pub fn lengths(
     verdict::then(of_sums, verdict::then(of_squares, extremes))
 }
 
-// Whether a stack can be walked with a mask of this length, and its products fit.
+// Whether buffers of these lengths can be walked with a mask of this one, at a full scale whose products fit.
 fn readable(
     full_scale: u64,
-    frames: u64,
     mask: usize,
-    sums: &[u32],
-    squares: &[u32],
-    least: &[u16],
-    greatest: &[u16],
+    sums: usize,
+    squares: usize,
+    least: usize,
+    greatest: usize,
 ) -> bool
-    ensures { λ r. ⌜ r ≡ readable mask «full_scale» (stackOf frames (now (sums .entry)) (now (squares .entry)) (now (least .entry)) (now (greatest .entry))) ⌝ }
+    ensures { λ r. ⌜ r ≡ readable mask «full_scale» sums squares least greatest ⌝ }
 {
     if 4095 < full_scale {
         return false;
     }
-    if 100 < frames {
+    if sums != mask {
         return false;
     }
-    if sums.len() != mask {
+    if squares != mask {
         return false;
     }
-    if squares.len() != mask {
+    if least != mask {
         return false;
     }
-    if least.len() != mask {
-        return false;
-    }
-    greatest.len() == mask
+    greatest == mask
 }
 
 // The most that a greatest sample can be.
-fn top(full_scale: u64, frames: u64) -> u16
+fn top(full_scale: u64, frames: u16) -> u16
     requires { ⌜ «full_scale» ≤ 4095 ⌝ }
     ensures { λ r. ⌜ r ≡ top «full_scale» frames ⌝ }
 {
     if frames == 0 { 0 } else { full_scale as u16 }
 }
 
-// 11 at one site, each number in as few bits as it needs.
+// The count, or 1 with no frames in.
+fn or_one(frames: u16) -> u16
+    ensures { λ r. ⌜ r ≡ orOne frames ⌝ }
+{
+    if frames == 0 { 1 } else { frames }
+}
+
+// 11 at one site, each number in as few bits as it needs, the widest last: so more sites are walked at once.
 fn beyond(
     frames: u16,
+    once: u16,
     squares: u32,
     most: u16,
     sum: u32,
@@ -76,42 +80,41 @@ fn beyond(
     least: u16,
     greatest: u16,
 ) -> bool
-    requires { ⌜ frames ≤ 100 ⌝ }
-    ensures { λ r. ⌜ r ≡ beyond frames squares most sum square least greatest ⌝ }
+    ensures { λ r. ⌜ r ≡ beyond frames once squares most sum square least greatest ⌝ }
 {
-    let reversed = greatest < least;
     let over = most < greatest;
     let square_over = squares < square;
-    let low = frames as u32 * least as u32;
-    let high = frames as u32 * greatest as u32;
+    let low = once as u32 * least as u32;
     let sum_below = sum < low;
+    let high = frames as u32 * greatest as u32;
     let sum_above = high < sum;
     let k_square = frames as u64 * square as u64;
     let sum_square = sum as u64 * sum as u64;
     let crossed = k_square < sum_square;
-    reversed | (over | (square_over | (sum_below | (sum_above | crossed))))
+    (((crossed | square_over) | sum_below) | sum_above) | over
 }
 
 // 11 at some surveyed site.
 fn some_impossible(
     full_scale: u64,
-    frames: u64,
+    frames: u16,
     mask: &[u8],
     sums: &[u32],
     squares: &[u32],
     least: &[u16],
     greatest: &[u16],
 ) -> bool
-    requires { ⌜ readable (length (now mask)) «full_scale» (stackOf frames (now sums) (now squares) (now least) (now greatest)) ≡ true ⌝ }
+    requires { ⌜ (frames < 128) × (readable (length (now mask)) «full_scale» (length (now sums)) (length (now squares)) (length (now least)) (length (now greatest)) ≡ true) ⌝ }
     ensures { λ r. ⌜ r ≡ impossibleIn (length (now (mask .entry))) «full_scale» (now (mask .entry)) (stackOf frames (now (sums .entry)) (now (squares .entry)) (now (least .entry)) (now (greatest .entry))) ⌝ }
 {
-    let k = frames as u16;
-    let most_squares = (frames * (full_scale * full_scale)) as u32;
+    let once = or_one(frames);
+    let most_squares = (frames as u64 * (full_scale * full_scale)) as u32;
     let most = top(full_scale, frames);
     let mut found = false;
     for i in 0..mask.len() {
         let bad = beyond(
-            k,
+            frames,
+            once,
             most_squares,
             most,
             sums[i],
@@ -124,7 +127,8 @@ fn some_impossible(
     found
 }
 
-// Refusal 11 of a stack that can be walked; any other is clear here, and has its refusal before.
+// Refusal 11 of a stack that can be walked; any other is clear here, and has its refusal before. A count to 100 is its own rest by 128: walked by the rest,
+// with no branch on the count before it, its products stay narrow and the walk quick.
 pub fn refuse_impossible(
     full_scale: u64,
     frames: u64,
@@ -138,15 +142,15 @@ pub fn refuse_impossible(
 {
     if readable(
         full_scale,
-        frames,
         mask.len(),
-        sums,
-        squares,
-        least,
-        greatest,
+        sums.len(),
+        squares.len(),
+        least.len(),
+        greatest.len(),
     ) {
-        let found = some_impossible(full_scale, frames, mask, sums, squares, least, greatest);
-        return verdict::refuse_if(11, 0, found);
+        let k = (frames % 128) as u16;
+        let found = some_impossible(full_scale, k, mask, sums, squares, least, greatest);
+        return verdict::refuse_if(11, 0, (frames <= 100) & found);
     }
     Verdict::Clear
 }

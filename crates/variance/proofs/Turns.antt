@@ -1,5 +1,5 @@
 -- What one turn of the numerator's walk does, over plain values.
-use Prim.Native.Nat.{ℕ, _+_, _-_, _*_, _≤_}
+use Prim.Native.Nat.{ℕ, _+_, _-_, _*_, _≤_, _<_}
 use mathlib.Core.Bool.{Bool, true, false, cond}
 use mathlib.Core.List.{List}
 use mathlib.Core.Path.{_≡_, refl}
@@ -29,9 +29,9 @@ module _ (code : ℕ) where
       by true = refl
       by false = refl
 
--- a site adds at most 100 times the largest sum of squares that 32 bits hold
-pub scatter-small : (k code q x here : ℕ) → k ≤ 100 → q ≤ 4294967295 → here ≡ k * seenAt code q - x → here ≤ 100 * 4294967295
-scatter-small k code q x here most small h = omega (arith, times-le k (seenAt code q) 100 4294967295 most (seen-le code q 4294967295 small))
+-- a site adds at most 127 times the largest sum of squares that 32 bits hold
+pub scatter-small : (k code q x here : ℕ) → k < 128 → q ≤ 4294967295 → here ≡ k * seenAt code q - x → here ≤ 127 * 4294967295
+scatter-small k code q x here most small h = omega (arith, times-le k (seenAt code q) 127 4294967295 (omega arith) (seen-le code q 4294967295 small))
 
 module _ (k : ℕ) (mask sums squares : List ℕ) where
   -- no site is walked yet

@@ -162,17 +162,11 @@ module _ (w h full : ℕ) (mask : List ℕ) (s : Stack) where
 
   -- and where it does not
   module _ (clear : varianceVerdict w h full mask s ≡ verdict.Clear) where
-    -- what the walk asks of the stack
+    -- what the walk of the numerator asks of it
     pub walkable : (s .frames ≤ 100) × (length mask ≤ 16384) × (length (s .sums) ≡ length mask) × (length (s .squares) ≡ length mask)
-        × ((i : ℕ) → i < length mask → seen mask (s .sums) i * seen mask (s .sums) i ≤ s .frames * seen mask (s .squares) i)
     walkable =
-        let a = accepted clear in (
-          a .most,
-          omega (arith, a .lent .masked, sites-few w h),
-          a .long .of-sums ∙ sym (a .lent .masked),
-          a .long .of-squares ∙ sym (a .lent .masked),
-          (λ i l. a .possible i (omega (arith, a .lent .masked)) .scatter),
-        )
+        let a = accepted clear in
+        (a .most, omega (arith, a .lent .masked, sites-few w h), a .long .of-sums ∙ sym (a .lent .masked), a .long .of-squares ∙ sym (a .lent .masked))
 
     module _ (count : ℕ) (n : count ≡ sumTo (walked w h (length mask)) (one mask)) where
       counted : count ≡ sumTo (sitesOf w h) (one mask)

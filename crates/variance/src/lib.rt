@@ -29,28 +29,43 @@ fn product_at(code: u8, product: u64) -> u64
     if code == 0 { product } else { 0 }
 }
 
-// k × q − s² at a site, as it is seen.
+// k × q − s² at a site, as it is seen; 0 where s² is above k × q.
 fn scatter_at(frames: u32, code: u8, sum: u32, square: u32) -> u64
-    requires { ⌜ (frames ≤ 100) × (seenAt code sum * seenAt code sum ≤ frames * seenAt code square) ⌝ }
+    requires { ⌜ frames < 128 ⌝ }
     ensures { λ r. ⌜ r ≡ frames * seenAt code square - seenAt code sum * seenAt code sum ⌝ }
 {
     let upper = product_at(code, frames as u64 * square as u64);
     let lower = product_at(code, sum as u64 * sum as u64);
-    upper - lower
+    if lower < upper { upper - lower } else { 0 }
 }
 
-// The sum of k × q − s² over the surveyed sites, of a stack that 11 does not refuse.
-fn scatter(frames: u64, mask: &[u8], sums: &[u32], squares: &[u32]) -> u64
-    requires { ⌜ (frames ≤ 100) × (length (now mask) ≤ 16384) × (length (now sums) ≡ length (now mask)) × (length (now squares) ≡ length (now mask))
-        × ((i : ℕ) → i < length (now mask) → seen (now mask) (now sums) i * seen (now mask) (now sums) i ≤ frames * seen (now mask) (now squares) i) ⌝ }
+// The sum of k × q − s² over the surveyed sites.
+fn scatter(frames: u32, mask: &[u8], sums: &[u32], squares: &[u32]) -> u64
+    requires { ⌜ (frames < 128) × (length (now mask) ≤ 16384) × (length (now sums) ≡ length (now mask)) × (length (now squares) ≡ length (now mask)) ⌝ }
     ensures { λ r. ⌜ r ≡ scatter (length (now (mask .entry))) frames (seen (now (mask .entry)) (now (sums .entry))) (seen (now (mask .entry)) (now (squares .entry))) ⌝ }
 {
-    let k = frames as u32;
     let mut total: u64 = 0;
     for i in 0..mask.len() {
-        total += scatter_at(k, mask[i], sums[i], squares[i]);
+        total += scatter_at(frames, mask[i], sums[i], squares[i]);
     }
     total
+}
+
+// The numerator of a stack that is not refused. It is walked by the count's rest by 128, before any branch on the count: so its products stay narrow.
+fn numerator(frames: u64, mask: &[u8], sums: &[u32], squares: &[u32]) -> u64
+    ensures { λ r. ⌜ (frames ≤ 100 → length (now (mask .entry)) ≤ 16384 → length (now (sums .entry)) ≡ length (now (mask .entry)) → length (now (squares .entry)) ≡ length (now (mask .entry))
+        → r ≡ scatter (length (now (mask .entry))) frames (seen (now (mask .entry)) (now (sums .entry))) (seen (now (mask .entry)) (now (squares .entry)))) ⌝ }
+{
+    if 16384 < mask.len() {
+        return 0;
+    }
+    if sums.len() != mask.len() {
+        return 0;
+    }
+    if squares.len() != mask.len() {
+        return 0;
+    }
+    scatter((frames % 128) as u32, mask, sums, squares)
 }
 
 // Refusals 1 to 5, 7 and 11 of a stack with this many surveyed sites.
@@ -108,6 +123,7 @@ pub fn stack_variance(
     ensures paper { λ r. ⌜ variancePaperOf r ≡ variancePaper width height «full_scale» (now (mask .entry)) (stackOf frames (now (sums .entry)) (now (squares .entry)) (now (least .entry)) (now (greatest .entry))) ⌝ }
 {
     let count = window::surveyed(width, height, mask);
+    let upper = numerator(frames, mask, sums, squares);
     match judge_variance(
         width,
         height,
@@ -122,9 +138,8 @@ pub fn stack_variance(
     ) {
         Verdict::Refused(refusal) => Variance::Refused(refusal),
         Verdict::Clear => {
-            let numerator = scatter(frames, mask, sums, squares);
-            let denominator = count * (frames * frames);
-            Variance::Figures(numerator, denominator, exact::ratio(numerator, denominator))
+            let lower = count * (frames * frames);
+            Variance::Figures(upper, lower, exact::ratio(upper, lower))
         }
     }
 }

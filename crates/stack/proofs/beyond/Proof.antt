@@ -7,13 +7,13 @@ use Rattle.stack.proofs.beyond.Statement.{statement}
 use Rattle.stack.proofs.beyond.Tie as tie
 
 mul-low : tie.Need-mul-low
-mul-low c = omega (arith, times-le (c .args .frames) (c .args .least) 100 65535 (omega arith) (omega arith))
+mul-low c = omega (arith, times-le (c .args .once) (c .args .least) 65535 65535 (omega arith) (omega arith))
 
 mul-high : tie.Need-mul-high
-mul-high c = omega (arith, times-le (c .args .frames) (c .args .greatest) 100 65535 (omega arith) (omega arith))
+mul-high c = omega (arith, times-le (c .args .frames) (c .args .greatest) 65535 65535 (omega arith) (omega arith))
 
 mul-k-square : tie.Need-mul-k-square
-mul-k-square c = omega (arith, times-le (c .args .frames) (c .args .square) 100 4294967295 (omega arith) (omega arith))
+mul-k-square c = omega (arith, times-le (c .args .frames) (c .args .square) 65535 4294967295 (omega arith) (omega arith))
 
 mul-sum-square : tie.Need-mul-sum-square
 mul-sum-square c = omega (arith, times-le (c .args .sum) (c .args .sum) 4294967295 4294967295 (omega arith) (omega arith))

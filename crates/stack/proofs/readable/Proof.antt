@@ -10,31 +10,24 @@ returns c = rw (lt-leb _ _ (c .if1 .taken))
 
 returns-2 : tie.Need-returns-2
 unfolding readable
-returns-2 c = rw (le-leb _ _ (c .before .if1 .left), lt-leb _ _ (c .if2 .taken))
+returns-2 c = rw (le-leb _ _ (c .before .if1 .left), ne-eqb _ _ (c .if2 .taken))
 
 returns-3 : tie.Need-returns-3
 unfolding readable
-returns-3 c = rw (le-leb _ _ (c .before .before .if1 .left), le-leb _ _ (c .before .if2 .left), ne-eqb _ _ (c .if3 .taken))
+returns-3 c = let of-sums = c .before in
+    rw (le-leb _ _ (of-sums .before .if1 .left), eq-eqb _ _ (of-sums .if2 .left), ne-eqb _ _ (c .if3 .taken))
 
 returns-4 : tie.Need-returns-4
 unfolding readable
-returns-4 c = let of-sums = c .before in
-    let count = of-sums .before in
-    rw (le-leb _ _ (count .before .if1 .left), le-leb _ _ (count .if2 .left), eq-eqb _ _ (of-sums .if3 .left), ne-eqb _ _ (c .if4 .taken))
+returns-4 c = let of-squares = c .before in
+    let of-sums = of-squares .before in
+    rw (le-leb _ _ (of-sums .before .if1 .left), eq-eqb _ _ (of-sums .if2 .left), eq-eqb _ _ (of-squares .if3 .left), ne-eqb _ _ (c .if4 .taken))
 
 returns-5 : tie.Need-returns-5
 unfolding readable
 returns-5 c = let of-squares = c .before in
     let of-sums = of-squares .before in
-    let count = of-sums .before in
-    rw (le-leb _ _ (count .before .if1 .left), le-leb _ _ (count .if2 .left), eq-eqb _ _ (of-sums .if3 .left), eq-eqb _ _ (of-squares .if4 .left), ne-eqb _ _ (c .if5 .taken))
-
-returns-6 : tie.Need-returns-6
-unfolding readable
-returns-6 c = let of-squares = c .before in
-    let of-sums = of-squares .before in
-    let count = of-sums .before in
-    rw (le-leb _ _ (count .before .if1 .left), le-leb _ _ (count .if2 .left), eq-eqb _ _ (of-sums .if3 .left), eq-eqb _ _ (of-squares .if4 .left), eq-eqb _ _ (c .if5 .left))
+    rw (le-leb _ _ (of-sums .before .if1 .left), eq-eqb _ _ (of-sums .if2 .left), eq-eqb _ _ (of-squares .if3 .left), eq-eqb _ _ (c .if4 .left))
 
 pub readable-spec : {M : Type 1} → statement M
-readable-spec = tie.close (tie.spec returns returns-2 returns-3 returns-4 returns-5 returns-6)
+readable-spec = tie.close (tie.spec returns returns-2 returns-3 returns-4 returns-5)

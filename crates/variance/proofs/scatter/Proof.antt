@@ -5,27 +5,23 @@ use native.Mathlib.Omega.{arith}
 use lib.ListN.{length, getD}
 use borrow.Author.Needs.{needs}
 use Rattle.window.specs.View.{seen}
-use Rattle.window.proofs.Views.{seen-is}
 use Rattle.variance.specs.Variance.{scatter}
 use Rattle.variance.proofs.Turns.{scatter-small, scatter-none, scatter-more}
 use Rattle.variance.proofs.scatter.Statement.{statement}
 use Rattle.variance.proofs.scatter.Tie as tie
 
 abbrev Inv-loop : tie.InvT-loop
-Inv-loop frames mask sums squares k total₀ i₀ i-end total i =
-    (i ≤ length mask) × (total ≤ i * (100 * 4294967295)) × (total ≡ scatter i frames (seen mask sums) (seen mask squares))
+Inv-loop frames mask sums squares total₀ i₀ i-end total i =
+    (i ≤ length mask) × (total ≤ i * (127 * 4294967295)) × (total ≡ scatter i frames (seen mask sums) (seen mask squares))
 
 abbrev μ-loop : tie.MeasureT-loop
-μ-loop frames mask sums squares k total₀ i₀ i-end total i = length mask - i
+μ-loop frames mask sums squares total₀ i₀ i-end total i = length mask - i
 
 abbrev Begun : tie.At-loop Inv-loop μ-loop → tie.Start Inv-loop μ-loop
 Begun c = c .before .before .before .before
 
 abbrev Turn : tie.After-scatter-at Inv-loop μ-loop → tie.At-loop Inv-loop μ-loop
 Turn c = c .before .before .before .before .before
-
-cast-k : tie.Need-cast-k Inv-loop μ-loop
-cast-k c = omega arith
 
 loop-holds : tie.Need-loop-holds Inv-loop μ-loop
 loop-holds c = (omega arith, omega arith, scatter-none _ _ _ _)
@@ -46,12 +42,10 @@ shared-slice-read-scatter-at-3 : tie.Need-shared-slice-read-scatter-at-3 Inv-loo
 shared-slice-read-scatter-at-3 c = omega arith
 
 scatter-at-requires : tie.Need-scatter-at-requires Inv-loop μ-loop
-scatter-at-requires c κs = let l = c .before .before .before .before in
-    let s = Begun l in
-    (s .pre .0, rw (← seen-is (s .args .mask .now) (s .args .sums .now) (l .loop .i), ← seen-is (s .args .mask .now) (s .args .squares .now) (l .loop .i)) (s .pre .4 (l .loop .i) (omega arith)))
+scatter-at-requires c κs = search needs
 
 -- what is added is small
-small : (c : tie.After-scatter-at Inv-loop μ-loop) → c .scatter-at .result ≤ 100 * 4294967295
+small : (c : tie.After-scatter-at Inv-loop μ-loop) → c .scatter-at .result ≤ 127 * 4294967295
 small c = let l = Turn c in
     let a = Begun l .args in
     scatter-small (a .frames) (getD (a .mask .now) (l .loop .i) 0) (getD (a .squares .now) (l .loop .i) 0) _ _ (omega arith) (omega (arith, l .before .shared-slice-known3 .given (l .loop .i))) (c .scatter-at .ensures)
@@ -79,7 +73,6 @@ scatter-spec =
     (tie.spec
     Inv-loop
     μ-loop
-    cast-k
     loop-holds
     shared-slice-read-scatter-at
     mul-scatter-at

@@ -9,7 +9,7 @@ use Rattle.variance.proofs.scatter_at.Statement.{statement}
 use Rattle.variance.proofs.scatter_at.Tie as tie
 
 mul-product-at : tie.Need-mul-product-at
-mul-product-at c = omega (arith, times-le (c .args .frames) (c .args .square) 100 4294967295 (omega arith) (omega arith))
+mul-product-at c = omega (arith, times-le (c .args .frames) (c .args .square) 127 4294967295 (omega arith) (omega arith))
 
 product-at-requires : tie.Need-product-at-requires
 product-at-requires c κs = search needs
@@ -22,11 +22,17 @@ product-at-requires-2 : tie.Need-product-at-requires-2
 product-at-requires-2 c κs = search needs
 
 sub-result : tie.Need-sub-result
-sub-result c = let a = c .before .before .args in
-    omega (arith, c .before .product-at .ensures, c .product-at2 .ensures, scaled-seen (a .code) (a .frames) (a .square), square-seen (a .code) (a .sum), c .before .before .pre)
+sub-result c = omega arith
 
 returns : tie.Need-returns
-returns c = ap₂ _-_ (c .before .product-at .ensures ∙ scaled-seen _ _ _) (c .product-at2 .ensures ∙ square-seen _ _)
+returns c = let lower = c .before in
+    ap₂ _-_ (lower .before .product-at .ensures ∙ scaled-seen _ _ _) (lower .product-at2 .ensures ∙ square-seen _ _)
+
+-- 0 is what is left where the product is not above the square
+returns-2 : tie.Need-returns-2
+returns-2 c = let lower = c .before in
+    let a = lower .before .before .args in
+    omega (arith, lower .before .product-at .ensures, lower .product-at2 .ensures, scaled-seen (a .code) (a .frames) (a .square), square-seen (a .code) (a .sum), c .if1 .left)
 
 pub scatter-at-spec : {M : Type 1} → statement M
 scatter-at-spec =
@@ -37,4 +43,5 @@ scatter-at-spec =
     mul-product-at-2
     product-at-requires-2
     sub-result
-    returns)
+    returns
+    returns-2)
