@@ -24,7 +24,7 @@ use Rattle.refusals.proofs.Ranges.{one-counting}
 use Rattle.refusals.proofs.Judges.{Masked}
 use Rattle.stack.specs.State.{Stack, impossibleIn}
 use Rattle.stack.proofs.Promises.{AgreeStack, same-lengths, same-impossible}
-use Rattle.adding.specs.After.{extremeAt, withFrame}
+use Rattle.adding.specs.After.{withFrame}
 use Rattle.adding.specs.Add.{addVerdict, addAnswer, addPaperOf, addPaper, addStack}
 use Rattle.adding.specs.Run.{run, runVerdict, overFrames}
 use Rattle.adding.proofs.Turns.{extreme-out, renewed-same, renewed-keeps}

@@ -1,5 +1,5 @@
 -- What one turn of 11's walk does, over plain values.
-use Prim.Native.Nat.{ℕ, _+_, _*_, _%_, _≤_, zero-le}
+use Prim.Native.Nat.{ℕ, _+_, _*_, _%_, zero-le}
 use mathlib.Core.Bool.{Bool, true, false, cond, _&&_, _||_}
 use mathlib.Core.List.{List}
 use mathlib.Core.Logic.{_⊎_, inl, inr}
@@ -13,7 +13,6 @@ use Rattle.laws.proofs.Firsts.{some-none, some-more}
 use Rattle.verdict.specs.Verdict.{refuseWith, refuseIf}
 use Rattle.verdict.specs.declared.Verdict.the-variants.{Clear}
 use Rattle.window.specs.View.{surveyed, seenAt, seen}
-use Rattle.window.proofs.Views.{seen-is}
 use Rattle.stack.specs.State.{Stack, stackOf, impossible, impossibleAt, impossibleIn}
 use Rattle.stack.specs.Walk.{readable, top, orOne, beyond, foundImpossible}
 use Rattle.stack.proofs.Sites.{Possible, is-possible, by-limits}

@@ -1,6 +1,6 @@
 // The variance of a stack: document 01, "Stack", as document 02 i amends it.
 ghost use mathlib.Core.Path.{_≡_};
-ghost use Prim.Native.Nat.{ℕ, _-_, _*_, _≤_, _<_};
+ghost use Prim.Native.Nat.{_-_, _*_, _≤_, _<_};
 ghost use lib.ListN.{length};
 ghost use Rattle.laws.specs.Sum.{sumTo};
 ghost use Rattle.window.specs.Walk.{walked};

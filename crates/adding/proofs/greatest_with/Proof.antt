@@ -1,5 +1,5 @@
 -- `greatest_with` is right because its branches are the definition's.
-use mathlib.Core.Path.{sym, _∙_}
+use mathlib.Core.Path.{sym}
 use borrow.Author.Tests.{lt-ltb, le-ltb}
 use Rattle.laws.specs.Greatest.{greater}
 use Rattle.adding.proofs.Turns.{extreme-out, extreme-first, extreme-later}
