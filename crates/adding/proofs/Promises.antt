@@ -14,7 +14,7 @@ use Rattle.verdict.specs.Verdict.{ifClear}
 use Rattle.verdict.specs.declared.Refusal.{Refusal}
 use Rattle.verdict.specs.declared.Verdict.{Verdict}
 use Rattle.verdict.specs.declared.Verdict.the-variants as verdict
-use Rattle.verdict.proofs.Verdicts.{Tabled, RefusesCounting, refuses-counting}
+use Rattle.verdict.proofs.Verdicts.{Tabled, RefusesCounting, refuses-counting, never-given}
 use Rattle.verdict.proofs.Answers.{counted-told}
 use Rattle.window.specs.Shape.{sitesOf}
 use Rattle.window.specs.View.{surveyed, seen, above}
@@ -162,6 +162,12 @@ module _ (w h full : ℕ) (mask : List ℕ) where
     -- and no call meets 11 on what it leaves
     pub run-possible : impossibleIn (sitesOf w h) full mask (run w h full mask fs) ≡ false
     run-possible = rw (run-leaves w h full mask legal fs ranged few) (possible-in w h full mask fs ranged)
+
+    -- so whatever frame is offered next, it never gets 11
+    pub run-next : (frame : List ℕ) → addPaper w h full mask frame (run w h full mask fs) .number ≡ 11 → ⊥
+    unfolding addPaper
+    run-next frame e =
+        never-given (addVerdict w h full mask frame (run w h full mask fs)) (adds.table w h full mask frame (run w h full mask fs)) (rw run-possible) (omega arith) e
 
   -- accepted frames are accepted in any order, and give the same stack, all four buffers
   pub run-order : (fs gs : List (List ℕ)) → Reordered fs gs → runVerdict w h full mask fs ≡ verdict.Clear
