@@ -244,13 +244,14 @@ uint64_t tip_dark_level(size_t width, size_t height, uint64_t full_scale, uint64
  *   least      the least of them, grey levels
  *   greatest   the greatest of them, grey levels
  *
- * All four are 0 while no frame is in. At a site that is not surveyed (mask code 1 to 3) they are never read and never
- * changed.
+ * All four are 0 while no frame is in. At a site that is not surveyed (mask code 1 to 3) what they hold changes no
+ * answer, and stays.
  *
  * Whose it is. The caller owns the four buffers, keeps the count, and lends them: tip_stack_add writes the buffers and
  * answers the new count, tip_stack_variance and tip_blinking_sites only read them.
  *
- * Refusal 11. With k the count of frames, a stack as lent is impossible where at some surveyed site
+ * Refusal 11. With k the count of frames, and sum, square, least and greatest what the four buffers hold at a site, a
+ * stack as lent is impossible where at some surveyed site
  *
  *   sum > k * full_scale, square > k * full_scale * full_scale, or k * square < sum * sum;
  *   least > greatest, or greatest > full_scale;
@@ -258,7 +259,7 @@ uint64_t tip_dark_level(size_t width, size_t height, uint64_t full_scale, uint64
  *   k is 0, and least or greatest is above 0.
  *
  * It is the same in all three calls, and its place is 0. A stack that tip_stack_add has built from zeros, with one
- * window, mask and full scale, never gets it. It does not tell every stack that no frames can give.
+ * window, mask and full scale, never gets it. Some stacks that no frames can give pass these tests.
  */
 
 /*
@@ -362,7 +363,7 @@ uint64_t tip_stack_variance(size_t width, size_t height, uint64_t full_scale, ui
  * Refusals, in the order tested: 1; 2; 3 (spread not in 1..4095, or frames is 0 or above 100); 4 (mask, sums, squares,
  * least or greatest); 5; 11 (the stack is impossible: see above). There is no 6, since no frame is taken, and no 7.
  *
- *   Two frames, site 0 at 100 and then at 900, the others at 500 both times:
+ *   Two frames, site 0 at 100 and then at 900, the others at 500 both times; so the mean of each is 500:
  *   const uint8_t mask[4] = {0, 0, 0, 0};
  *   const uint32_t sums[4] = {1000, 1000, 1000, 1000}, squares[4] = {820000, 500000, 500000, 500000};
  *   const uint16_t least[4] = {100, 500, 500, 500}, greatest[4] = {900, 500, 500, 500};
@@ -370,7 +371,7 @@ uint64_t tip_stack_variance(size_t width, size_t height, uint64_t full_scale, ui
  *   tip_blinking_sites(2, 2, 1023, 2, 800, mask, 4, sums, 4, squares, 4, least, 4, greatest, 4, &place, &count);
  *                                       gives 0, and count is 1; at spread 1 it is 1 too, at spread 801 it is 0
  *
- *   With frames 0 it gives 3. The means of the four sites are equal.
+ *   With frames 0 it gives 3.
  */
 uint64_t tip_blinking_sites(size_t width, size_t height, uint64_t full_scale, uint64_t frames, uint64_t spread,
                             const uint8_t *mask, size_t mask_len,

@@ -19,7 +19,7 @@ const JUMPING: usize = 5 * WINDOW.width + 6;
 const UNSEEN: usize = 20;
 /// Grey levels.
 const SPREADS: [u64; 8] = [1, 4, 8, 16, 32, 64, 96, 128];
-/// Where the counts stop falling: noise alone spreads no site so far.
+/// Noise alone spreads no site so far: what counts here jumps.
 const ABOVE_NOISE: u64 = 16;
 
 fn main() -> ExitCode {
@@ -106,7 +106,7 @@ impl Camera {
         (0..SITES).map(|site| self.sample(number, site)).collect()
     }
 
-    /// Of 16 coins the heads are 8 on the average: off by them, a sample has a noise of 2 grey levels.
+    /// Of 16 coins 8 are heads on average. Each head more or less is a grey level: a noise of 2 grey levels.
     fn sample(&mut self, number: usize, site: usize) -> u16 {
         let heads = (self.coins() as u16).count_ones() as u16;
         match site {

@@ -26,7 +26,7 @@ impl PatternNoise {
     }
 }
 
-/// Vertical pattern noise of a stack: how much its columns differ, from the frames and the sums of a
+/// Vertical pattern noise of a stack: how much its columns differ, from the count of frames and the sums of a
 /// [`Stack`](crate::Stack), and nothing else of it. Every mask code must be 0. With C the column totals of the sums, h
 /// the height, w the width and k the frame count:
 ///

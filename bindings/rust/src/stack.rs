@@ -3,12 +3,12 @@
 use crate::{native, Fraction, Refusal, Variance, Window};
 
 /// A stack of frames: how many are in, and four numbers of each site's samples. It owns its lists, `width * height`
-/// each, in row order. At a site that is not surveyed they are never read and never changed.
+/// each, in row order. At a site that is not surveyed what they hold changes no answer, and stays.
 ///
 /// [`stack_add`] fills it, and [`stack_variance`] and [`blinking_sites`] read it whole;
-/// [`pattern_vertical`](crate::pattern_vertical) and [`pattern_horizontal`](crate::pattern_horizontal) take its frames
-/// and its sums. A caller may keep it, send it and put it together again: each call judges what it is lent, and refuses
-/// an impossible stack with 11.
+/// [`pattern_vertical`](crate::pattern_vertical) and [`pattern_horizontal`](crate::pattern_horizontal) take its count of
+/// frames and its sums. A caller may keep it, send it and put it together again: each call judges what it is lent, and
+/// refuses an impossible stack with 11.
 ///
 /// With k frames in, a stack is impossible where at some surveyed site
 ///
@@ -18,8 +18,8 @@ use crate::{native, Fraction, Refusal, Variance, Window};
 /// - the sum is below `k * least`, or above `k * greatest`;
 /// - k is 0, and least or greatest is above 0.
 ///
-/// A stack that [`stack_add`] has built from a new one, with one window, mask and full scale, never gets 11. It does not
-/// tell every stack that no frames can give.
+/// A stack that [`stack_add`] has built from a new one, with one window, mask and full scale, never gets 11. Some stacks
+/// that no frames can give pass these tests.
 ///
 /// ```
 /// use tippovrain::{stack_add, Stack, Window};
@@ -82,7 +82,7 @@ impl Stack {
 /// # Errors
 ///
 /// In the order tested: 1; 2; 3 (more than 100 frames in); 4 (`mask`, `frame` or a list of `stack`); 5; 6; 11 (the stack
-/// as lent is impossible: [`Stack`]); 12 (100 frames in).
+/// as lent is impossible: [`Stack`]); 12 (100 frames in). With no surveyed site a frame is accepted.
 ///
 /// ```
 /// use tippovrain::{stack_add, Stack, Window, GAP};
@@ -127,8 +127,9 @@ pub fn stack_add(
 }
 
 /// The variance of a stack, in grey levels squared: with k frames in, the sum of `k * square - sum * sum` over the n
-/// surveyed sites, over `n * k * k`. The numerator is at most n times the square of `k * full_scale`, so below 2^53, as
-/// the denominator is: both are exact as an f64. Least and greatest are judged, and change no figure.
+/// surveyed sites, over `n * k * k`; `square` is a site's sum of squares. The numerator is at most n times the square of
+/// `k * full_scale`, so below 2^53, as the denominator is: both are exact as an f64. Least and greatest are judged, and
+/// change no figure.
 ///
 /// - `mask`: `width * height` codes, 0 to 3
 /// - `stack`: 2 to 100 frames in, as [`stack_add`] left it
@@ -181,8 +182,8 @@ pub fn stack_variance(window: Window, mask: &[u8], stack: &Stack) -> Result<Vari
 
 /// Counts the blinking sites of a stack: the surveyed sites whose spread, greatest sample less least, is at least
 /// `spread`. Such a site jumps between levels, while its mean may look healthy. After frames that [`stack_add`] accepted
-/// it is a site at which two of them differ by `spread` or more. At a greater `spread` the count is never greater; with
-/// no surveyed site it is 0.
+/// it is a site at which two of them differ by `spread` or more. At a greater `spread` the count is never greater. With
+/// no surveyed site, or after one frame, it is 0: neither is refused. Sums and squares are judged, and change no count.
 ///
 /// - `spread`: 1 to 4095 grey levels; above full scale none is counted
 /// - `mask`: `width * height` codes, 0 to 3
