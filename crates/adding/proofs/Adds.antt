@@ -1,7 +1,7 @@
 -- The verdict on a frame that is offered, and what it makes of the answer and the stack.
 use Prim.Native.Nat.{ℕ, _+_, _*_, _^_, _≤_, _<_}
 use mathlib.Core.List.{List, [], _∷_}
-use mathlib.Core.Path.{_≡_, refl, _∙_}
+use mathlib.Core.Path.{_≡_, refl}
 use native.Mathlib.Omega.{arith}
 use lib.Dec.{eqb, ltb}
 use lib.ListN.{length, getD}
@@ -14,7 +14,7 @@ use Rattle.verdict.proofs.Verdicts.{Test, Tabled, test, tabled, tabled-then, th
 use Rattle.window.specs.Shape.{badSides, badScale, sitesOf}
 use Rattle.window.specs.View.{seen}
 use Rattle.window.proofs.Sides.{scale}
-use Rattle.window.proofs.Views.{seen-is, seen-out}
+use Rattle.window.proofs.Views.{seen-is, seen-elsewhere}
 use Rattle.refusals.specs.Judge.{otherThan, frameVerdict}
 use Rattle.refusals.proofs.Ranges.{samplesTest}
 use Rattle.refusals.proofs.Judges.{codesTest, Framed, frame-clear, frame-tabled}
@@ -91,7 +91,7 @@ module _ (w h full : ℕ) (mask frame : List ℕ) (s : Stack) where
     bright = scale full (a .lent .of .scaled) .high
 
     none : (getD mask i 0 ≡ 0 → ⊥) → seen mask frame i ≡ 0
-    none e = seen-is mask frame i ∙ seen-out (getD mask i 0) (getD frame i 0) e
+    none e = seen-elsewhere mask frame i e
 
     pub sum-room : getD (s .sums) i 0 < 2 ^ 32 → getD (s .sums) i 0 + seen mask frame i < 2 ^ 32
     sum-room fits =

@@ -18,7 +18,7 @@ use Rattle.verdict.proofs.Verdicts.{Tabled, RefusesCounting, refuses-counting, 
 use Rattle.verdict.proofs.Answers.{counted-told}
 use Rattle.window.specs.Shape.{sitesOf}
 use Rattle.window.specs.View.{surveyed, seen, above}
-use Rattle.window.proofs.Views.{Agree, same-view, seen-is, seen-in, seen-out}
+use Rattle.window.proofs.Views.{Agree, same-view, seen-there, seen-elsewhere}
 use Rattle.refusals.specs.Judge.{frameVerdict}
 use Rattle.refusals.proofs.Ranges.{one-counting}
 use Rattle.refusals.proofs.Judges.{Masked}
@@ -29,9 +29,9 @@ use Rattle.adding.specs.Add.{addVerdict, addAnswer, addPaperOf, addPaper
 use Rattle.adding.specs.Run.{run, runVerdict, overFrames}
 use Rattle.adding.proofs.Turns.{extreme-out, renewed-same, renewed-keeps}
 use Rattle.adding.proofs.Adds as adds
-use Rattle.adding.proofs.Frames.{over-ext, Reordered, as-many, InRange, AllInRange, range-order}
+use Rattle.adding.proofs.Frames.{over-ext, Reordered, as-many, AllInRange, range-order}
 use Rattle.adding.proofs.Extremes.{ExtremeOf, extreme-is}
-use Rattle.adding.proofs.Runs.{sumAt, squareAt, mostAt, sum-out, square-out, most-out, run-is, run-clear, run-leaves, possible-in, taken, same-stack}
+use Rattle.adding.proofs.Runs.{sumAt, squareAt, extremeIn, sum-out, square-out, extreme-none, run-is, run-clear, run-leaves, possible-in, taken, same-stack}
 
 -- ---- adding a frame
 -- what a stack holds at a site is the same in two stacks
@@ -68,7 +68,7 @@ module _ (w h full : ℕ) (mask frame : List ℕ) (s : Stack) where
   add-keeps i out = by (addVerdict w h full mask frame s)
     where
       none : seen mask frame i ≡ 0
-      none = seen-is mask frame i ∙ seen-out (getD mask i 0) (getD frame i 0) out
+      none = seen-elsewhere mask frame i out
 
       by : (v : Verdict) → SameAt i (ifClear v (withFrame mask frame s) s) s
       by verdict.Clear = record {
@@ -114,7 +114,7 @@ module _ (w h full : ℕ) (mask : List ℕ) where
     run-counts = ap (λ (s : Stack). s .frames) (run-is w h full mask fs clear)
 
     sample : (i : ℕ) → getD mask i 0 ≡ 0 → (f : List ℕ) → seen mask f i ≡ getD f i 0
-    sample i e f = seen-is mask f i ∙ seen-in (getD mask i 0) (getD f i 0) e
+    sample i e f = seen-there mask f i e
 
     -- the sums are each surveyed site's sum, and sum of squares, of the frames' samples
     pub run-sums : (i : ℕ) → i < sitesOf w h → getD mask i 0 ≡ 0
@@ -135,10 +135,10 @@ module _ (w h full : ℕ) (mask : List ℕ) where
           run-is w h full mask fs clear,
           getD-tabulate (sitesOf w h) (sumAt mask fs) i l,
           getD-tabulate (sitesOf w h) (squareAt mask fs) i l,
-          getD-tabulate (sitesOf w h) (mostAt mask fs lesser) i l,
-          getD-tabulate (sitesOf w h) (mostAt mask fs greater) i l,
+          getD-tabulate (sitesOf w h) (extremeIn mask fs lesser) i l,
+          getD-tabulate (sitesOf w h) (extremeIn mask fs greater) i l,
         )
-        (sum-out mask fs i out, square-out mask fs i out, most-out mask fs lesser-choice i out, most-out mask fs greater-choice i out)
+        (sum-out mask fs i out, square-out mask fs i out, extreme-none mask fs lesser-choice i out, extreme-none mask fs greater-choice i out)
 
   -- of a run of one frame or more, at a surveyed site: no frame has a sample below the least and some frame has it, and so of the greatest
   pub run-extremes : (f : List ℕ) (fs : List (List ℕ)) → runVerdict w h full mask (f ∷ fs) ≡ verdict.Clear → (i : ℕ) → i < sitesOf w h → getD mask i 0 ≡ 0
@@ -148,8 +148,8 @@ module _ (w h full : ℕ) (mask : List ℕ) where
       let sampled = fun-ext (sample (f ∷ fs) clear i e) in
       rw (
         run-is w h full mask (f ∷ fs) clear,
-        getD-tabulate (sitesOf w h) (mostAt mask (f ∷ fs) lesser) i l,
-        getD-tabulate (sitesOf w h) (mostAt mask (f ∷ fs) greater) i l,
+        getD-tabulate (sitesOf w h) (extremeIn mask (f ∷ fs) lesser) i l,
+        getD-tabulate (sitesOf w h) (extremeIn mask (f ∷ fs) greater) i l,
         ← sampled,
       )
       (extreme-is lesser-choice (λ (g : List ℕ). seen mask g i) f fs, extreme-is greater-choice (λ (g : List ℕ). seen mask g i) f fs)

@@ -18,11 +18,10 @@ use Rattle.verdict.specs.declared.Verdict.the-variants as verdict
 use Rattle.verdict.proofs.Verdicts.{then-clear, clear-then, clear-unless}
 use Rattle.window.specs.Shape.{sitesOf}
 use Rattle.window.specs.View.{surveyed, seen}
-use Rattle.window.proofs.Views.{seen-is, seen-in, seen-out}
+use Rattle.window.proofs.Views.{seen-there, seen-elsewhere}
 use Rattle.refusals.proofs.Judges.{Masked, clear-frame}
 use Rattle.stack.specs.State.{Stack, stackOf, stackLengths, impossibleIn}
-use Rattle.stack.proofs.Sites.{Possible, clear-lengths, none-impossible}
-use Rattle.stack.proofs.Turns.{possible-zeros}
+use Rattle.stack.proofs.Sites.{Possible, clear-lengths, none-impossible, possible-zeros}
 use Rattle.adding.specs.After.{squared, extremeAt, extremes, withFrame}
 use Rattle.adding.specs.Add.{addVerdict}
 use Rattle.adding.specs.Run.{run, runVerdict, overFrames}
@@ -35,10 +34,9 @@ use Rattle.adding.proofs.Adds as adds
 -- a table of what is 0 where it is not surveyed is seen as it is
 shown : (mask : List ℕ) (n : ℕ) (g : ℕ → ℕ) → ((i : ℕ) → (getD mask i 0 ≡ 0 → ⊥) → g i ≡ 0) → (i : ℕ) → i < n → seen mask (tabulate n g) i ≡ g i
 shown mask n g out i l =
-    seen-is mask (tabulate n g) i
-    ∙ ⊎-elim
-    (λ t. seen-in (getD mask i 0) (getD (tabulate n g) i 0) (eqb-true (getD mask i 0) 0 t) ∙ getD-tabulate n g i l)
-    (λ t. let e = eqb-false (getD mask i 0) 0 t in seen-out (getD mask i 0) (getD (tabulate n g) i 0) e ∙ sym (out i e))
+    ⊎-elim
+    (λ t. seen-there mask (tabulate n g) i (eqb-true (getD mask i 0) 0 t) ∙ getD-tabulate n g i l)
+    (λ t. let e = eqb-false (getD mask i 0) 0 t in seen-elsewhere mask (tabulate n g) i e ∙ sym (out i e))
     (true-or-false (surveyed (getD mask i 0)))
 
 module _ (mask : List ℕ) (fs : List (List ℕ)) where
@@ -49,12 +47,12 @@ module _ (mask : List ℕ) (fs : List (List ℕ)) where
   abbrev pub squareAt : ℕ → ℕ
   squareAt i = overFrames fs (λ (f : List ℕ). squared (seen mask f) i)
 
-  abbrev pub mostAt : (ℕ → ℕ → ℕ) → ℕ → ℕ
-  mostAt choose i = extremeOver choose fs (λ (f : List ℕ). seen mask f i)
+  abbrev pub extremeIn : (ℕ → ℕ → ℕ) → ℕ → ℕ
+  extremeIn choose i = extremeOver choose fs (λ (f : List ℕ). seen mask f i)
 
   -- all are 0 where it is not surveyed
   unseen : (i : ℕ) → (getD mask i 0 ≡ 0 → ⊥) → (f : List ℕ) → seen mask f i ≡ 0
-  unseen i e f = seen-is mask f i ∙ seen-out (getD mask i 0) (getD f i 0) e
+  unseen i e f = seen-elsewhere mask f i e
 
   pub sum-out : (i : ℕ) → (getD mask i 0 ≡ 0 → ⊥) → sumAt i ≡ 0
   sum-out i e = over-none fs (unseen i e)
@@ -62,31 +60,31 @@ module _ (mask : List ℕ) (fs : List (List ℕ)) where
   pub square-out : (i : ℕ) → (getD mask i 0 ≡ 0 → ⊥) → squareAt i ≡ 0
   square-out i e = over-none fs (λ f. rw (unseen i e f))
 
-  pub most-out : {choose : ℕ → ℕ → ℕ} {Before : ℕ → ℕ → Type 0} → Choice choose Before → (i : ℕ) → (getD mask i 0 ≡ 0 → ⊥) → mostAt choose i ≡ 0
-  most-out c i e = extreme-zeros c fs (unseen i e)
+  pub extreme-none : {choose : ℕ → ℕ → ℕ} {Before : ℕ → ℕ → Type 0} → Choice choose Before → (i : ℕ) → (getD mask i 0 ≡ 0 → ⊥) → extremeIn choose i ≡ 0
+  extreme-none c i e = extreme-zeros c fs (unseen i e)
 
 -- extremes with one frame more
 module _ {choose : ℕ → ℕ → ℕ} {Before : ℕ → ℕ → Type 0} (c : Choice choose Before) (mask : List ℕ) (fs : List (List ℕ)) (f : List ℕ) where
-  most-more : (i : ℕ) → extremeAt choose (length fs) (getD mask i 0) (mostAt mask fs choose i) (seen mask f i) ≡ mostAt mask (f ∷ fs) choose i
+  extreme-more : (i : ℕ) → extremeAt choose (length fs) (getD mask i 0) (extremeIn mask fs choose i) (seen mask f i) ≡ extremeIn mask (f ∷ fs) choose i
   unfolding extremeOver
-  most-more i =
+  extreme-more i =
       ⊎-elim
-      (λ t. extreme-in choose (length fs) (getD mask i 0) (mostAt mask fs choose i) (seen mask f i) (eqb-true (getD mask i 0) 0 t))
+      (λ t. extreme-in choose (length fs) (getD mask i 0) (extremeIn mask fs choose i) (seen mask f i) (eqb-true (getD mask i 0) 0 t))
       (λ t. let e = eqb-false (getD mask i 0) 0 t in
-      extreme-out choose (length fs) (getD mask i 0) (mostAt mask fs choose i) (seen mask f i) e ∙ most-out mask fs c i e ∙ sym (most-out mask (f ∷ fs) c i e))
+      extreme-out choose (length fs) (getD mask i 0) (extremeIn mask fs choose i) (seen mask f i) e ∙ extreme-none mask fs c i e ∙ sym (extreme-none mask (f ∷ fs) c i e))
       (true-or-false (surveyed (getD mask i 0)))
 
-  extremes-more : (n : ℕ) → extremes choose (length fs) mask (seen mask f) (tabulate n (mostAt mask fs choose)) ≡ tabulate n (mostAt mask (f ∷ fs) choose)
+  extremes-more : (n : ℕ) → extremes choose (length fs) mask (seen mask f) (tabulate n (extremeIn mask fs choose)) ≡ tabulate n (extremeIn mask (f ∷ fs) choose)
   extremes-more n =
-      renewed-table (λ (i before : ℕ). extremeAt choose (length fs) (getD mask i 0) before (seen mask f i)) n (mostAt mask fs choose)
-      ∙ tabulate-ext n (λ (i : ℕ). extremeAt choose (length fs) (getD mask i 0) (mostAt mask fs choose i) (seen mask f i)) (mostAt mask (f ∷ fs) choose) (λ i l. most-more i)
+      renewed-table (λ (i before : ℕ). extremeAt choose (length fs) (getD mask i 0) before (seen mask f i)) n (extremeIn mask fs choose)
+      ∙ tabulate-ext n (λ (i : ℕ). extremeAt choose (length fs) (getD mask i 0) (extremeIn mask fs choose i) (seen mask f i)) (extremeIn mask (f ∷ fs) choose) (λ i l. extreme-more i)
 
 module _ (w h full : ℕ) (mask : List ℕ) where
   -- the stack of some frames
   abbrev pub ofFrames : List (List ℕ) → Stack
   ofFrames fs =
       stackOf (length fs) (tabulate (sitesOf w h) (sumAt mask fs)) (tabulate (sitesOf w h) (squareAt mask fs))
-      (tabulate (sitesOf w h) (mostAt mask fs lesser)) (tabulate (sitesOf w h) (mostAt mask fs greater))
+      (tabulate (sitesOf w h) (extremeIn mask fs lesser)) (tabulate (sitesOf w h) (extremeIn mask fs greater))
 
   stack-more : (fs : List (List ℕ)) (f : List ℕ) → withFrame mask f (ofFrames fs) ≡ ofFrames (f ∷ fs)
   unfolding overFrames
@@ -115,22 +113,22 @@ module _ (w h full : ℕ) (mask : List ℕ) where
     pub square-seen : seen mask (ofFrames fs .squares) i ≡ squareAt mask fs i
     square-seen = shown mask (sitesOf w h) (squareAt mask fs) (square-out mask fs) i l
 
-    pub least-seen : seen mask (ofFrames fs .least) i ≡ mostAt mask fs lesser i
-    least-seen = shown mask (sitesOf w h) (mostAt mask fs lesser) (most-out mask fs lesser-choice) i l
+    pub least-seen : seen mask (ofFrames fs .least) i ≡ extremeIn mask fs lesser i
+    least-seen = shown mask (sitesOf w h) (extremeIn mask fs lesser) (extreme-none mask fs lesser-choice) i l
 
-    pub greatest-seen : seen mask (ofFrames fs .greatest) i ≡ mostAt mask fs greater i
-    greatest-seen = shown mask (sitesOf w h) (mostAt mask fs greater) (most-out mask fs greater-choice) i l
+    pub greatest-seen : seen mask (ofFrames fs .greatest) i ≡ extremeIn mask fs greater i
+    greatest-seen = shown mask (sitesOf w h) (extremeIn mask fs greater) (extreme-none mask fs greater-choice) i l
 
   -- ---- which runs are accepted
   module _ (fs : List (List ℕ)) where
     -- frames in range leave what 11 does not refuse
     possible-at : AllInRange (sitesOf w h) full mask fs → (i : ℕ) → i < sitesOf w h
-        → Possible full (length fs) (sumAt mask fs i) (squareAt mask fs i) (mostAt mask fs lesser i) (mostAt mask fs greater i)
+        → Possible full (length fs) (sumAt mask fs i) (squareAt mask fs i) (extremeIn mask fs lesser i) (extremeIn mask fs greater i)
     unfolding overFrames extremeOver
     possible-at a i l = by fs a
       where
         by : (gs : List (List ℕ)) → AllInRange (sitesOf w h) full mask gs
-            → Possible full (length gs) (sumAt mask gs i) (squareAt mask gs i) (mostAt mask gs lesser i) (mostAt mask gs greater i)
+            → Possible full (length gs) (sumAt mask gs i) (squareAt mask gs i) (extremeIn mask gs lesser i) (extremeIn mask gs greater i)
         by [] none = possible-zeros full 0
         by (g ∷ gs) (more b r) = rw (← add-one (length gs)) (possible-more full (length gs) _ _ _ _ (seen mask g i) (by gs r) (b .ranged i l))
 
@@ -146,8 +144,8 @@ module _ (w h full : ℕ) (mask : List ℕ) where
         (record {
           of-sums = length-tabulate (sitesOf w h) (sumAt mask fs);
           of-squares = length-tabulate (sitesOf w h) (squareAt mask fs);
-          of-least = length-tabulate (sitesOf w h) (mostAt mask fs lesser);
-          of-greatest = length-tabulate (sitesOf w h) (mostAt mask fs greater);
+          of-least = length-tabulate (sitesOf w h) (extremeIn mask fs lesser);
+          of-greatest = length-tabulate (sitesOf w h) (extremeIn mask fs greater);
         })
 
     -- so a stack of fewer than 100 takes one more
@@ -200,6 +198,6 @@ same-stack w h full mask {fs} {gs} order =
       as-many order,
       tabulate-ext (sitesOf w h) (sumAt mask fs) (sumAt mask gs) (λ i l. over-order (λ (f : List ℕ). seen mask f i) order),
       tabulate-ext (sitesOf w h) (squareAt mask fs) (squareAt mask gs) (λ i l. over-order (λ (f : List ℕ). squared (seen mask f) i) order),
-      tabulate-ext (sitesOf w h) (mostAt mask fs lesser) (mostAt mask gs lesser) (λ i l. extreme-order lesser-choice (λ (f : List ℕ). seen mask f i) order),
-      tabulate-ext (sitesOf w h) (mostAt mask fs greater) (mostAt mask gs greater) (λ i l. extreme-order greater-choice (λ (f : List ℕ). seen mask f i) order),
+      tabulate-ext (sitesOf w h) (extremeIn mask fs lesser) (extremeIn mask gs lesser) (λ i l. extreme-order lesser-choice (λ (f : List ℕ). seen mask f i) order),
+      tabulate-ext (sitesOf w h) (extremeIn mask fs greater) (extremeIn mask gs greater) (λ i l. extreme-order greater-choice (λ (f : List ℕ). seen mask f i) order),
     )

@@ -69,7 +69,7 @@ fn add_seen(mask: &[u8], frame: &[u16], sums: &mut [u32], squares: &mut [u32])
     }
 }
 
-// A site's least sample after one more: an empty stack has that sample.
+// A site's least sample after one more: the first is the least.
 fn least_with(frames: u64, code: u8, least: u16, sample: u16) -> u16
     ensures { λ r. ⌜ r ≡ extremeAt lesser frames code least sample ⌝ }
 {

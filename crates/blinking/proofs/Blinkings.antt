@@ -15,7 +15,7 @@ use Rattle.verdict.specs.declared.Verdict.the-variants as verdict
 use Rattle.verdict.proofs.Verdicts.{Test, Tabled, test, tabled, tabled-then, then-same, then-clear, clear-then, unless, clear-unless}
 use Rattle.verdict.proofs.Answers.{was-accepted}
 use Rattle.window.specs.Shape.{badCount, badSides, badScale, sitesOf}
-use Rattle.window.proofs.Sides.{Count, frame-count, sites-few}
+use Rattle.window.proofs.Sides.{Count, frame-count, is-count, sites-few}
 use Rattle.refusals.specs.Judge.{otherThan, maskVerdict}
 use Rattle.refusals.proofs.Judges.{codesTest, Masked, mask-clear, clear-mask, mask-tabled}
 use Rattle.stack.specs.State.{Stack, stackLengths, impossibleIn}
@@ -39,11 +39,6 @@ spread-is n e =
 pub is-spread : (n : ℕ) → Spread n → badSpread n ≡ false
 unfolding badSpread
 is-spread n s = rw (ne-eqb n 0 (λ e. omega (arith, s .low))) (le-ltb 4095 n (s .high))
-
--- nor does it a count of frames from 1 to 100
-is-count : (k : ℕ) → Count k → badCount k ≡ false
-unfolding badCount
-is-count k c = rw (ne-eqb k 0 (λ e. omega (arith, c .low))) (le-ltb 100 k (c .high))
 
 module _ (w h full spread : ℕ) (mask : List ℕ) (s : Stack) where
   -- the tests in the order of document 02, i

@@ -1,22 +1,21 @@
 -- How many sites blink: what the count owes to each site.
-use Prim.Native.Nat.{ℕ, _-_, _*_, _≤_, _<_}
+use Prim.Native.Nat.{ℕ, _-_, _≤_}
 use mathlib.Core.Bool.{Bool, true, false, cond, _&&_}
 use mathlib.Core.List.{List}
 use mathlib.Core.Path.{_≡_, refl, ap₂}
 use native.Mathlib.Nat.{le-trans}
-use native.Mathlib.Omega.{arith}
 use lib.Dec.{leb}
 use lib.ListN.{getD}
 use borrow.Author.Tests.{leb-true, le-leb}
 use Rattle.laws.specs.First.{countTo}
 use Rattle.laws.specs.Sum.{sumTo}
 use Rattle.laws.proofs.Cases.{and-true}
-use Rattle.laws.proofs.Sums.{sum-ext, sum-scaled}
+use Rattle.laws.proofs.Firsts.{count-le, count-ext}
 use Rattle.window.specs.View.{surveyed, seenAt, one}
 use Rattle.window.proofs.Views.{Agree}
 use Rattle.blinking.specs.Blinking.{blinksAt, blinks}
 
--- two tests that are asked only of a surveyed site
+-- tests that agree at a surveyed site, and are asked only there, are one
 pub where-surveyed : (t : Bool) {a b : Bool} → (t ≡ true → a ≡ b) → (t && a) ≡ (t && b)
 where-surveyed true e = e refl
 where-surveyed false e = refl
@@ -26,19 +25,6 @@ pub site-counts : (spread code least greatest d : ℕ) (b : Bool) → d ≡ grea
     → _≡_ {A = ℕ} (cond b 1 0) (cond (blinksAt spread code least greatest) 1 0)
 unfolding blinksAt
 site-counts spread code least greatest d b e told = rw (← e, told)
-
--- a test that holds wherever another does counts no fewer
-count-le : (n : ℕ) (f g : ℕ → Bool) → ((i : ℕ) → i < n → f i ≡ true → g i ≡ true) → countTo n f ≤ countTo n g
-count-le n f g h =
-    omega (arith, sum-scaled n 1 (λ (i : ℕ). cond (g i) 1 0) (λ (i : ℕ). cond (f i) 1 0) (λ i l. by (f i) (g i) (h i l)))
-  where
-    by : (a b : Bool) → (a ≡ true → b ≡ true) → cond a 1 0 ≤ 1 * cond b 1 0
-    by true b e = rw (e refl) (omega arith)
-    by false b e = omega arith
-
--- tests that agree count alike
-pub count-ext : (n : ℕ) (f g : ℕ → Bool) → ((i : ℕ) → i < n → f i ≡ g i) → countTo n f ≡ countTo n g
-count-ext n f g h = sum-ext n (λ (i : ℕ). cond (f i) 1 0) (λ (i : ℕ). cond (g i) 1 0) (λ i l. rw (h i l))
 
 -- a site that blinks at a spread blinks at any lesser one
 blinks-below : (a b code least greatest : ℕ) → a ≤ b → blinksAt b code least greatest ≡ true → blinksAt a code least greatest ≡ true

@@ -8,18 +8,18 @@ use native.Mathlib.Omega.{arith}
 use lib.ListN.{length, getD, replicate, length-replicate}
 use Rattle.laws.specs.First.{countTo}
 use Rattle.laws.specs.Sum.{sumTo}
+use Rattle.laws.proofs.Firsts.{count-ext}
 use Rattle.laws.proofs.Sole.{Sole, sole}
 use Rattle.laws.proofs.Sums.{sum-zero, zero-terms}
 use Rattle.verdict.proofs.Verdicts.{Tabled, Refuses, refuses}
 use Rattle.verdict.proofs.Answers.{paper-told}
 use Rattle.window.specs.Shape.{sitesOf}
 use Rattle.window.specs.View.{seen, one}
-use Rattle.window.proofs.Views.{seen-is, seen-in, seen-counted}
+use Rattle.window.proofs.Views.{seen-there, seen-counted}
 use Rattle.refusals.proofs.Judges.{Masked}
 use Rattle.stack.specs.State.{Stack}
 use Rattle.stack.proofs.Promises.{AgreeStack, same-lengths, same-impossible}
-use Rattle.stack.proofs.Sites.{lengths-clear, none-impossible}
-use Rattle.stack.proofs.Turns.{possible-zeros}
+use Rattle.stack.proofs.Sites.{lengths-clear, none-impossible, possible-zeros}
 use Rattle.adding.specs.Run.{run}
 use Rattle.adding.proofs.Frames.{InRange, AllInRange, range-repeated}
 use Rattle.adding.proofs.Runs.{run-leaves, stack-long}
@@ -28,7 +28,7 @@ use Rattle.blinking.specs.Blinking.{blinks, blinkingVerdict, blinkingCou
 use Rattle.blinking.specs.declared.Blinking.the-variants.{Sites}
 use Rattle.blinking.specs.Jumps.{jumps}
 use Rattle.blinking.proofs.Blinkings.{is-spread, tests, table, Lent, not-refused, answer-is}
-use Rattle.blinking.proofs.Counts.{count-ext, fewer-blinking, blinking-surveyed, same-blinking}
+use Rattle.blinking.proofs.Counts.{fewer-blinking, blinking-surveyed, same-blinking}
 use Rattle.blinking.proofs.Jumps.{blinks-jumps, equal-still}
 
 module _ (w h full spread : ℕ) (mask : List ℕ) (s : Stack) where
@@ -84,7 +84,7 @@ module _ (w h full spread : ℕ) (mask : List ℕ) (s : Stack) where
         rw (shown (s .least), shown (s .greatest)) at (answer-is w h full spread mask s n answer .0 .possible i l .ordered)
       where
         shown : (buffer : List ℕ) → seen mask buffer i ≡ getD buffer i 0
-        shown buffer = seen-is mask buffer i ∙ seen-in (getD mask i 0) (getD buffer i 0) e
+        shown buffer = seen-there mask buffer i e
 
     -- no more sites are counted than are surveyed
     pub among-surveyed : n ≤ sumTo (sitesOf w h) (one mask)
@@ -105,25 +105,30 @@ module _ (w h full : ℕ) (mask : List ℕ) (s : Stack) (a b : ℕ) (low : 1 ≤
 
 -- ---- runs of frames, from a stack of zeros, with one window, full scale and mask, at a spread from 1 to 4,095
 module _ (w h full spread : ℕ) (mask : List ℕ) (legal : Masked w h full mask) (low : 1 ≤ spread) (high : spread ≤ 4095) where
-  -- after 1 to 100 frames in range the call is accepted, and a site counts exactly where it is surveyed and two of its frames differ by at least the spread
+  -- after 1 to 100 frames in range a site blinks exactly where it is surveyed and two of its frames differ by at least the spread
+  pub run-sites : (fs : List (List ℕ)) → AllInRange (sitesOf w h) full mask fs → 1 ≤ length fs → length fs ≤ 100 → (i : ℕ) → i < sitesOf w h
+      → let s = run w h full mask fs in
+      blinks spread mask (s .least) (s .greatest) i ≡ jumps spread mask fs i
+  run-sites [] ranged some few i l = absurd (omega arith)
+  run-sites (f ∷ fs) ranged some few i l =
+      blinks-jumps spread i mask (f ∷ fs) _ _ (run-extremes w h full mask f fs (run-accepted w h full mask legal (f ∷ fs) ranged few) i l)
+
+  -- so the call is accepted, and counts these sites
   pub run-blinking : (fs : List (List ℕ)) → AllInRange (sitesOf w h) full mask fs → 1 ≤ length fs → length fs ≤ 100
       → blinkingAnswer w h full spread mask (run w h full mask fs) ≡ Sites (countTo (sitesOf w h) (jumps spread mask fs))
   unfolding blinkingAnswer
-  run-blinking [] ranged some few = absurd (omega arith)
-  run-blinking (f ∷ fs) ranged some few =
-      let s = run w h full mask (f ∷ fs) in
-      let clear = run-accepted w h full mask legal (f ∷ fs) ranged few in
-      let count = run-counts w h full mask (f ∷ fs) clear in
+  run-blinking fs ranged some few =
+      let s = run w h full mask fs in
+      let count = run-counts w h full mask fs (run-accepted w h full mask legal fs ranged few) in
       let lent : Lent w h full spread mask s = record {
         wide = record { low = low; high = high };
         count = record { low = omega (arith, count); high = omega (arith, count) };
         masked = legal;
-        long = rw (run-leaves w h full mask legal (f ∷ fs) ranged few) (lengths-clear w h _ (stack-long w h full mask (f ∷ fs)));
+        long = rw (run-leaves w h full mask legal fs ranged few) (lengths-clear w h _ (stack-long w h full mask fs));
       } in
       rw (
-        not-refused w h full spread mask s lent (run-possible w h full mask legal (f ∷ fs) ranged few),
-        count-ext (sitesOf w h) (blinks spread mask (s .least) (s .greatest)) (jumps spread mask (f ∷ fs))
-            (λ i l. blinks-jumps spread i mask (f ∷ fs) _ _ (run-extremes w h full mask f fs clear i l)),
+        not-refused w h full spread mask s lent (run-possible w h full mask legal fs ranged few),
+        count-ext (sitesOf w h) (blinks spread mask (s .least) (s .greatest)) (jumps spread mask fs) (run-sites fs ranged some few),
       )
 
   -- so equal frames have none

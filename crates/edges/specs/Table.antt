@@ -313,7 +313,7 @@ pub record Stacks : Type 0 where
   -- the variance is 640000/16, 625 × 2⁶, whatever the greatest sample is that 11 lets pass
   pub both-frames : Varies (jumped 900) (variance.Figures 640000 16 (fin false 625 (pos 6)))
   pub greatest-1023 : Varies (jumped 1023) (variance.Figures 640000 16 (fin false 625 (pos 6)))
-  -- 1024, above full scale, gets 11 in all three calls; document 01's 11, which asked s and q alone, let site 0 and the others pass
+  -- 1024, above full scale, gets 11 in all three calls; document 01's 11, which asks s and q alone, lets site 0 and the others pass
   pub greatest-1024 : (sumsImpossible 1023 2 1000 820000 ≡ false)
       × (sumsImpossible 1023 2 1000 500000 ≡ false)
       × (addAnswer 2 2 1023 (all 4 0) (jumping 900) (jumped 1024) ≡ adding.Refused (refusal 11 0))

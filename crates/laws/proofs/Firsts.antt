@@ -1,5 +1,5 @@
 -- The laws of `firstTo` and `countTo`.
-use Prim.Native.Nat.{ℕ, zero, suc, _+_, _≤_, _<_}
+use Prim.Native.Nat.{ℕ, zero, suc, _+_, _*_, _≤_, _<_}
 use mathlib.Core.Bool.{Bool, true, false, cond, _||_}
 use mathlib.Core.Logic.{⊎-elim}
 use mathlib.Core.Path.{_≡_, refl, sym, _∙_}
@@ -10,7 +10,7 @@ use lib.Dec.{ltb}
 use borrow.Author.Tests.{lt-ltb, le-ltb, ltb-false}
 use Rattle.laws.specs.First.{firstTo, someTo, countTo}
 use Rattle.laws.proofs.Cases.{lt-or-ge, true-or-false, not-both}
-use Rattle.laws.proofs.Sums.{sum-le, sum-zero, zero-terms}
+use Rattle.laws.proofs.Sums.{sum-le, sum-ext, sum-scaled, sum-zero, zero-terms}
 
 module _ (test : ℕ → Bool) where
   -- where a search begins
@@ -126,6 +126,19 @@ pub first-ext : (n : ℕ) (f g : ℕ → Bool) → ((k : ℕ) → k < n → f k 
 unfolding firstTo
 first-ext zero f g h = refl
 first-ext (suc n) f g h = rw (first-ext n f g (λ k l. h k (omega arith)), h n (le-refl (suc n)))
+
+-- a test that holds wherever another does counts no fewer
+pub count-le : (n : ℕ) (f g : ℕ → Bool) → ((i : ℕ) → i < n → f i ≡ true → g i ≡ true) → countTo n f ≤ countTo n g
+count-le n f g h =
+    omega (arith, sum-scaled n 1 (λ (i : ℕ). cond (g i) 1 0) (λ (i : ℕ). cond (f i) 1 0) (λ i l. by (f i) (g i) (h i l)))
+  where
+    by : (a b : Bool) → (a ≡ true → b ≡ true) → cond a 1 0 ≤ 1 * cond b 1 0
+    by true b e = rw (e refl) (omega arith)
+    by false b e = omega arith
+
+-- tests that agree count alike
+pub count-ext : (n : ℕ) (f g : ℕ → Bool) → ((i : ℕ) → i < n → f i ≡ g i) → countTo n f ≡ countTo n g
+count-ext n f g h = sum-ext n (λ (i : ℕ). cond (f i) 1 0) (λ (i : ℕ). cond (g i) 1 0) (λ i l. rw (h i l))
 
 -- where a test holds nowhere below m, one that each index carries to it holds nowhere below n
 pub nowhere-from : (n m : ℕ) (f g : ℕ → Bool) (to : ℕ → ℕ) → ((i : ℕ) → i < n → (to i < m) × (f i ≡ g (to i)))

@@ -11,7 +11,8 @@ use Rattle.laws.specs.Greatest.{lesser, greater, greatestTo, greatestIn,
 use Rattle.laws.proofs.Cases.{lt-or-ge, true-or-false}
 use Rattle.laws.proofs.Firsts.{first-end, first-here, first-ext}
 
--- what the lesser and the greater of two have in common: the one chosen is one of the two, and stands before both, below them or above them
+-- what the lesser and the greater of two have in common: the one chosen is one of the two, and stands before both, in an order that is upwards for the
+-- lesser and downwards for the greater
 pub record Choice (choose : ℕ → ℕ → ℕ) (Before : ℕ → ℕ → Type 0) : Type 0 where
   pub one : (x y : ℕ) → (choose x y ≡ x) ⊎ (choose x y ≡ y)
   pub left : (x y : ℕ) → Before (choose x y) x
@@ -79,11 +80,7 @@ lesser-choice = record {
 to-of : (f : ℕ → ℕ) (P : ℕ → Type 0) (n : ℕ) → ((k : ℕ) → k ≤ n → P (f k)) → P (greatestTo n f)
 unfolding greatestTo
 to-of f P zero h = h 0 (omega arith)
-to-of f P (suc n) h = by (ltb (greatestTo n f) (f (suc n))) (to-of f P n (λ k l. h k (omega arith)))
-  where
-    by : (b : Bool) → P (greatestTo n f) → P (cond b (f (suc n)) (greatestTo n f))
-    by true before = h (suc n) (omega arith)
-    by false before = before
+to-of f P (suc n) h = choice-of greater-choice P (greatestTo n f) (f (suc n)) (to-of f P n (λ k l. h k (omega arith))) (h (suc n) (omega arith))
 
 to-le : (f : ℕ → ℕ) (n k : ℕ) → k ≤ n → f k ≤ greatestTo n f
 unfolding greatestTo

@@ -8,7 +8,7 @@ use Rattle.laws.specs.First.{countTo}
 use Rattle.verdict.specs.Verdict.{_⨟_, refuseFirst}
 use Rattle.verdict.specs.declared.Verdict.{Verdict}
 use Rattle.verdict.specs.declared.Verdict.the-variants.{Clear}
-use Rattle.verdict.proofs.Verdicts.{Test, Tabled, test, testFirst, tabled, tabled-then, then-same, then-clear, clear-then}
+use Rattle.verdict.proofs.Verdicts.{Test, Tabled, test, testFirst, tabled, tabled-then, then-same, then-clear, then-end, clear-then}
 use Rattle.window.specs.Shape.{badSides, badScale, sitesOf}
 use Rattle.window.specs.Walk.{walked}
 use Rattle.window.specs.View.{badCode, above, seen}
@@ -47,13 +47,20 @@ module _ (w h full : ℕ) (mask : List ℕ) where
         let legal = shape-clear w h full (shape .0) in
         (handed .0, lent .0, record { legal = legal .0; scaled = legal .1; masked = length-clear (sitesOf w h) (length mask) (masked .0); codes = codes-clear (sitesOf w h) mask (lent .1) })
 
+    -- behind a good mask, with buffers of the right length, a call's own 3 is all that 1 to 5 can be
+    pub parameters-left : Masked w h full mask → lengths ≡ Clear → maskVerdict w h full parameters mask lengths ≡ parameters
+    unfolding maskVerdict _⨟_
+    parameters-left m l =
+        rw (
+          clear-shape w h full (m .legal) (m .scaled),
+          clear-length (sitesOf w h) (length mask) (m .masked),
+          l,
+          clear-codes (sitesOf w h) mask (m .codes),
+        )
+        (then-end parameters)
+
     pub clear-mask : Masked w h full mask → parameters ≡ Clear → lengths ≡ Clear → maskVerdict w h full parameters mask lengths ≡ Clear
-    unfolding maskVerdict
-    clear-mask m p l =
-        clear-then (clear-shape w h full (m .legal) (m .scaled))
-        (clear-then p
-        (clear-then (clear-length (sitesOf w h) (length mask) (m .masked))
-        (clear-then l (clear-codes (sitesOf w h) mask (m .codes)))))
+    clear-mask m p l = parameters-left m l ∙ p
 
   -- 5 is asked of the whole window: 4 comes first
   pub mask-judged : (parameters lengths : Verdict)

@@ -61,6 +61,7 @@ module _ (w h : ℕ) (s : Stack) where
   pub lengths-tabled : Tabled (stackLengths w h s) length-tests
   lengths-tabled = tabled _ _
 
+-- buffers that can be walked with a mask of n codes
 pub record Readable (n full sums squares least greatest : ℕ) : Type 0 where
   pub scale : full ≤ 4095
   pub sums-long : sums ≡ n
@@ -107,6 +108,7 @@ pub record Possible (full k s q least greatest : ℕ) : Type 0 where
   pub empty : k ≡ 0 → (least ≡ 0) × (greatest ≡ 0)
 
 module _ (full k s q least greatest : ℕ) where
+  -- it is told by these bounds, either way
   pub possible-is : impossible full k s q least greatest ≡ false → Possible full k s q least greatest
   unfolding impossible sumsImpossible extremesImpossible emptyExtremes
   possible-is e =
@@ -146,6 +148,19 @@ module _ (full k s q least greatest : ℕ) where
         le-ltb (k * greatest) s (p .sum-most),
       )
       (⊎-elim (λ t. let zeros = p .empty (eqb-true k 0 t) in rw (t, zeros .0, zeros .1)) (λ f. rw f) (true-or-false (eqb k 0)))
+
+-- zeros pass every test
+pub possible-zeros : (full k : ℕ) → Possible full k 0 0 0 0
+possible-zeros full k = record {
+  sum = zero-le;
+  square = zero-le;
+  scatter = omega arith;
+  ordered = zero-le;
+  in-scale = zero-le;
+  sum-least = omega arith;
+  sum-most = zero-le;
+  empty = λ z. (refl, refl);
+}
 
 -- ---- 11 by the limits of its count and full scale
 module _ (full k s q least greatest : ℕ) where
@@ -225,7 +240,7 @@ module _ (full k s q least greatest : ℕ) where
             empty = λ z. absurd (some z);
           }
 
-  -- so these tests are all of 11: the others never decide alone
+  -- so these tests are all of 11
   pub by-limits : beyond k (orOne k) (k * (full * full)) (top full k) s q least greatest ≡ impossible full k s q least greatest
   unfolding beyond
   by-limits =

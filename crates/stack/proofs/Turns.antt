@@ -1,5 +1,5 @@
 -- What one turn of 11's walk does, over plain values.
-use Prim.Native.Nat.{ℕ, _+_, _*_, _%_, zero-le}
+use Prim.Native.Nat.{ℕ, _+_, _*_, _%_}
 use mathlib.Core.Bool.{Bool, true, false, cond, _&&_, _||_}
 use mathlib.Core.List.{List}
 use mathlib.Core.Logic.{_⊎_, inl, inr}
@@ -15,22 +15,9 @@ use Rattle.verdict.specs.declared.Verdict.the-variants.{Clear}
 use Rattle.window.specs.View.{surveyed, seenAt, seen}
 use Rattle.stack.specs.State.{Stack, stackOf, impossible, impossibleAt, impossibleIn}
 use Rattle.stack.specs.Walk.{readable, top, orOne, beyond, foundImpossible}
-use Rattle.stack.proofs.Sites.{Possible, is-possible, by-limits}
+use Rattle.stack.proofs.Sites.{is-possible, possible-zeros, by-limits}
 
--- zeros pass every test
-pub possible-zeros : (full k : ℕ) → Possible full k 0 0 0 0
-possible-zeros full k = record {
-  sum = zero-le;
-  square = zero-le;
-  scatter = omega arith;
-  ordered = zero-le;
-  in-scale = zero-le;
-  sum-least = omega arith;
-  sum-most = zero-le;
-  empty = λ z. (refl, refl);
-}
-
--- so 11 is never met where a site is not surveyed
+-- 11 is never met where a site is not surveyed: it is seen as zeros
 asked-seen : (full k code s q least greatest : ℕ)
     → (surveyed code && impossible full k s q least greatest)
     ≡ impossible full k (seenAt code s) (seenAt code q) (seenAt code least) (seenAt code greatest)
@@ -47,16 +34,16 @@ module _ (full : ℕ) (mask : List ℕ) (s : Stack) where
   unfolding impossibleIn
   asked-none = sym (some-none _)
 
-  pub asked-more : (i once most : ℕ) (found odd : Bool) → once ≡ orOne (s .frames) → most ≡ top full (s .frames) → found ≡ impossibleIn i full mask s
-      → odd
-      ≡ beyond (s .frames) once (s .frames * (full * full)) most (getD (s .sums) i 0) (getD (s .squares) i 0) (getD (s .least) i 0) (getD (s .greatest) i 0)
-      → (found || surveyed (getD mask i 0) && odd) ≡ impossibleIn (i + 1) full mask s
+  pub asked-more : (i kOrOne most : ℕ) (found bad : Bool) → kOrOne ≡ orOne (s .frames) → most ≡ top full (s .frames) → found ≡ impossibleIn i full mask s
+      → bad
+      ≡ beyond (s .frames) kOrOne (s .frames * (full * full)) most (getD (s .sums) i 0) (getD (s .squares) i 0) (getD (s .least) i 0) (getD (s .greatest) i 0)
+      → (found || surveyed (getD mask i 0) && bad) ≡ impossibleIn (i + 1) full mask s
   unfolding impossibleIn seen
-  asked-more i once most found odd o m f e =
+  asked-more i kOrOne most found bad o m f e =
       ap₂ _||_ f (ap (λ (b : Bool). surveyed (getD mask i 0) && b) (e ∙ limited) ∙ asked-seen full (s .frames) (getD mask i 0) _ _ _ _)
       ∙ some-more (impossibleAt full mask s) i
     where
-      limited : beyond (s .frames) once (s .frames * (full * full)) most (getD (s .sums) i 0) (getD (s .squares) i 0) (getD (s .least) i 0) (getD (s .greatest) i 0)
+      limited : beyond (s .frames) kOrOne (s .frames * (full * full)) most (getD (s .sums) i 0) (getD (s .squares) i 0) (getD (s .least) i 0) (getD (s .greatest) i 0)
           ≡ impossible full (s .frames) (getD (s .sums) i 0) (getD (s .squares) i 0) (getD (s .least) i 0) (getD (s .greatest) i 0)
       limited = rw (o, m) (by-limits full (s .frames) (getD (s .sums) i 0) (getD (s .squares) i 0) (getD (s .least) i 0) (getD (s .greatest) i 0))
 
@@ -68,7 +55,7 @@ module _ (full k : ℕ) (mask sums squares least greatest : List ℕ) where
   abbrev Walkable : Bool
   Walkable = readable (length mask) full (length sums) (length squares) (length least) (length greatest)
 
-  -- of buffers that can be walked, where the count is not above 100
+  -- what the walk by the rest finds is 11, where the count is at most 100
   pub asked-all : (found : Bool) → Walkable ≡ true → found ≡ impossibleIn (length mask) full mask (lent (k % 128)) → (leb k 100 && found) ≡ foundImpossible full mask (lent k)
   unfolding foundImpossible
   asked-all found e f = rw (e, f) (by (true-or-false (leb k 100)))
@@ -78,7 +65,7 @@ module _ (full k : ℕ) (mask sums squares least greatest : List ℕ) where
       by (inl t) = let few = leb-true k 100 t in let same : k % 128 ≡ k = omega arith in rw same
       by (inr t) = rw t
 
-  -- and not of any others
+  -- no other buffers are asked
   pub not-asked : Walkable ≡ false → Clear ≡ refuseIf 11 0 (foundImpossible full mask (lent k))
   unfolding refuseWith foundImpossible
   not-asked e = rw e

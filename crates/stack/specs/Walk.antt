@@ -15,17 +15,17 @@ readable n full sums squares least greatest =
 unfoldable pub top : ℕ → ℕ → ℕ
 top full k = cond (eqb k 0) 0 full
 
--- the count, or 1 with no frames in, where s is 0: so it is asked there, too, whether the least is above 0
+-- the count, or 1 with no frames in: there s is refused where it is above k × greatest, 0, so that s < 1 × least asks whether the least is above 0
 unfoldable pub orOne : ℕ → ℕ
 orOne k = cond (eqb k 0) 1 k
 
 -- 11 at one site by what is the same at every site: the count k, the count or 1, k × full scale² and the most that a greatest sample can be. The law
 -- `by-limits` says that these tests are all of 11
 unfoldable pub beyond : ℕ → ℕ → ℕ → ℕ → ℕ → ℕ → ℕ → ℕ → Bool
-beyond k once squares most s q least greatest =
-    (((ltb (k * q) (s * s) || ltb squares q) || ltb s (once * least)) || ltb (k * greatest) s) || ltb most greatest
+beyond k kOrOne mostSquares most s q least greatest =
+    (((ltb (k * q) (s * s) || ltb mostSquares q) || ltb s (kOrOne * least)) || ltb (k * greatest) s) || ltb most greatest
 
--- whether 11 is found, where the stack can be walked: any other gets 2, 3 or 4 before
+-- whether 11 is found, of a stack of at most 100 frames that can be walked: any other gets 2, 3 or 4 before
 unfoldable pub foundImpossible : ℕ → List ℕ → Stack → Bool
 foundImpossible full mask s =
     readable (length mask) full (length (s .sums)) (length (s .squares)) (length (s .least)) (length (s .greatest))

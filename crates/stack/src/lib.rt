@@ -62,36 +62,37 @@ fn top(full_scale: u64, frames: u16) -> u16
     if frames == 0 { 0 } else { full_scale as u16 }
 }
 
-// The count, or 1 with no frames in.
+// The count, or 1: with no frames in s is 0, so 1 × least asks whether the least is above 0.
 fn or_one(frames: u16) -> u16
     ensures { λ r. ⌜ r ≡ orOne frames ⌝ }
 {
     if frames == 0 { 1 } else { frames }
 }
 
-// 11 at one site, each number in as few bits as it needs, the widest last: so more sites are walked at once.
+// 11 at one site: what it leaves out never decides alone (the law `by-limits`). Each number has as few bits as it needs, and the wide products are formed
+// last: so more sites are walked at once.
 fn beyond(
     frames: u16,
-    once: u16,
-    squares: u32,
+    k_or_one: u16,
+    most_squares: u32,
     most: u16,
     sum: u32,
     square: u32,
     least: u16,
     greatest: u16,
 ) -> bool
-    ensures { λ r. ⌜ r ≡ beyond frames once squares most sum square least greatest ⌝ }
+    ensures { λ r. ⌜ r ≡ beyond frames «k_or_one» «most_squares» most sum square least greatest ⌝ }
 {
-    let over = most < greatest;
-    let square_over = squares < square;
-    let low = once as u32 * least as u32;
+    let too_great = most < greatest;
+    let square_over = most_squares < square;
+    let low = k_or_one as u32 * least as u32;
     let sum_below = sum < low;
     let high = frames as u32 * greatest as u32;
     let sum_above = high < sum;
     let k_square = frames as u64 * square as u64;
     let sum_square = sum as u64 * sum as u64;
     let crossed = k_square < sum_square;
-    (((crossed | square_over) | sum_below) | sum_above) | over
+    (((crossed | square_over) | sum_below) | sum_above) | too_great
 }
 
 // 11 at some surveyed site.
@@ -107,14 +108,14 @@ fn some_impossible(
     requires { ⌜ (frames < 128) × (readable (length (now mask)) «full_scale» (length (now sums)) (length (now squares)) (length (now least)) (length (now greatest)) ≡ true) ⌝ }
     ensures { λ r. ⌜ r ≡ impossibleIn (length (now (mask .entry))) «full_scale» (now (mask .entry)) (stackOf frames (now (sums .entry)) (now (squares .entry)) (now (least .entry)) (now (greatest .entry))) ⌝ }
 {
-    let once = or_one(frames);
+    let k_or_one = or_one(frames);
     let most_squares = (frames as u64 * (full_scale * full_scale)) as u32;
     let most = top(full_scale, frames);
     let mut found = false;
     for i in 0..mask.len() {
         let bad = beyond(
             frames,
-            once,
+            k_or_one,
             most_squares,
             most,
             sums[i],
@@ -127,7 +128,7 @@ fn some_impossible(
     found
 }
 
-// Refusal 11 of a stack that can be walked; any other is clear here, and has its refusal before. A count to 100 is its own rest by 128: walked by the rest,
+// Refusal 11 of a stack of at most 100 frames that can be walked; any other is clear here, and has its refusal before. A count to 100 is its own rest by 128: walked by the rest,
 // with no branch on the count before it, its products stay narrow and the walk quick.
 pub fn refuse_impossible(
     full_scale: u64,

@@ -58,6 +58,14 @@ module _ (w h full : ℕ) (mask : List ℕ) (s : Stack) where
   variance-blind s′ a =
       rw (same-lengths a w h, same-impossible a (sitesOf w h) full, a .frames, same-view (a .sums), same-view (a .squares))
 
+  -- by-sums: least and greatest are in no figure. A stack of the same count, sums and squares that is not refused has the same answer
+  pub variance-by-sums : (s′ : Stack) → s .frames ≡ s′ .frames → s .sums ≡ s′ .sums → s .squares ≡ s′ .squares → varianceVerdict w h full mask s′ ≡ verdict.Clear
+      → (p q : ℕ) (x : Float) → varianceAnswer w h full mask s ≡ Figures p q x → varianceAnswer w h full mask s′ ≡ Figures p q x
+  unfolding varianceAnswer
+  variance-by-sums s′ k a b clear p q x e =
+      let is = answer-is w h full mask s p q x e in
+      rw (clear, ← k, ← a, ← b, is .3, is .1, is .2)
+
   -- spare: with document 01's 14, where the numerator is 2^53 or more, put last, every verdict is the same (document 02, h)
   pub variance-spare : varianceVerdict w h full mask s ⨟ refuseIf 14 0 (leb (2 ^ 53) (varianceFigures w h mask s .numerator)) ≡ varianceVerdict w h full mask s
   variance-spare =
@@ -98,15 +106,15 @@ module _ (w h full : ℕ) (mask : List ℕ) (legal : Masked w h full mask) where
   pub run-variance : (fs : List (List ℕ)) → AllInRange (sitesOf w h) full mask fs → 2 ≤ length fs → length fs ≤ 100
       → 0 < sumTo (sitesOf w h) (one mask)
       → varianceVerdict w h full mask (run w h full mask fs) ≡ verdict.Clear
-  run-variance fs ranged least most some =
-      run-judged fs ranged most ∙ enough-frames (sumTo (sitesOf w h) (one mask)) (length fs) least most some
+  run-variance fs ranged two most some =
+      run-judged fs ranged most ∙ enough-frames (sumTo (sitesOf w h) (one mask)) (length fs) two most some
 
   -- and equal frames have the variance 0
   pub run-equal : (k : ℕ) (frame : List ℕ) → InRange (sitesOf w h) full mask frame → 2 ≤ k → k ≤ 100
       → 0 < sumTo (sitesOf w h) (one mask)
       → varianceAnswer w h full mask (run w h full mask (replicate k frame)) ≡ Figures 0 (sumTo (sitesOf w h) (one mask) * (k * k)) floatZero
   unfolding varianceAnswer
-  run-equal k frame ranged least most some =
+  run-equal k frame ranged two most some =
       let fs = replicate k frame in
       let many = length-replicate k frame in
       let all = range-repeated k ranged in

@@ -14,9 +14,8 @@ use Rattle.verdict.specs.declared.Verdict.the-variants as verdict
 use Rattle.verdict.proofs.Verdicts.{clear-then, clear-unless, then-end}
 use Rattle.window.specs.Shape.{badCount, sitesOf}
 use Rattle.window.specs.View.{seen, one}
-use Rattle.refusals.specs.Judge.{maskVerdict}
-use Rattle.refusals.proofs.Chains.{clear-shape, clear-length, clear-codes}
-use Rattle.refusals.proofs.Judges.{Masked}
+use Rattle.window.proofs.Sides.{is-count}
+use Rattle.refusals.proofs.Judges.{Masked, parameters-left}
 use Rattle.stack.specs.State.{Stack}
 use Rattle.adding.specs.After.{squared}
 use Rattle.adding.proofs.Frames.{over-repeated, AllInRange}
@@ -25,34 +24,22 @@ use Rattle.variance.specs.Variance.{tooFew, varianceVerdict, scatter}
 use Rattle.variance.proofs.Variances.{numeratorOf}
 
 module _ (w h full : ℕ) (mask : List ℕ) (legal : Masked w h full mask) where
-  -- behind a good mask, with buffers of the right length, a call's own 3 is all that 1 to 5 can be
-  parameters-left : (parameters : Verdict) {lengths : Verdict} → lengths ≡ verdict.Clear → maskVerdict w h full parameters mask lengths ≡ parameters
-  unfolding maskVerdict _⨟_
-  parameters-left parameters long =
-      rw (
-        clear-shape w h full (legal .legal) (legal .scaled),
-        clear-length (sitesOf w h) (length mask) (legal .masked),
-        long,
-        clear-codes (sitesOf w h) mask (legal .codes),
-      )
-      (then-end parameters)
-
-  -- so of frames in range 3 and 7 are left
+  -- of frames in range 3 and 7 are left
   pub judged-frames : (fs : List (List ℕ)) → AllInRange (sitesOf w h) full mask fs
       → varianceVerdict w h full mask (ofFrames w h full mask fs)
       ≡ refuseIf 3 0 (badCount (length fs)) ⨟ refuseIf 7 0 (tooFew (sumTo (sitesOf w h) (one mask)) (length fs))
   unfolding varianceVerdict
   judged-frames fs ranged =
       let three = refuseIf 3 0 (badCount (length fs)) in
-      rw (parameters-left three (stack-long w h full mask fs), clear-unless _ (possible-in w h full mask fs ranged)) (ap (λ (v : Verdict). three ⨟ v) (then-end _))
+      rw (parameters-left w h full mask legal (stack-long w h full mask fs), clear-unless _ (possible-in w h full mask fs ranged)) (ap (λ (v : Verdict). three ⨟ v) (then-end _))
 
 -- neither of which refuses two frames or more with a surveyed site
 pub enough-frames : (n k : ℕ) → 2 ≤ k → k ≤ 100 → 0 < n → refuseIf 3 0 (badCount k) ⨟ refuseIf 7 0 (tooFew n k) ≡ verdict.Clear
-unfolding badCount tooFew
-enough-frames n k least most some =
+unfolding tooFew
+enough-frames n k two most some =
     clear-then
-    (clear-unless _ (rw (ne-eqb k 0 (λ e. omega arith)) (le-ltb 100 k most)))
-    (clear-unless _ (rw (ne-eqb n 0 (λ e. omega arith)) (le-ltb k 2 least)))
+    (clear-unless _ (is-count k (record { low = omega arith; high = most })))
+    (clear-unless _ (rw (ne-eqb n 0 (λ e. omega arith)) (le-ltb k 2 two)))
 
 -- k equal samples p have k × (k × p²) = (k × p)²
 equal-none : (k p : ℕ) → k * (k * (p * p)) - k * p * (k * p) ≡ 0

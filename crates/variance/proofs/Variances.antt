@@ -104,7 +104,7 @@ module _ (w h full : ℕ) (mask : List ℕ) (s : Stack) where
     pub lent : Masked w h full mask
     pub long : Lengths w h s
     pub most : s .frames ≤ 100
-    pub least : 2 ≤ s .frames
+    pub two : 2 ≤ s .frames
     pub some : 0 < sumTo (sitesOf w h) (one mask)
     pub possible : (i : ℕ) → i < sitesOf w h → PossibleAt full mask s i
 
@@ -119,7 +119,7 @@ module _ (w h full : ℕ) (mask : List ℕ) (s : Stack) where
         lent = lent .2;
         long = lengths-clear w h s (lent .1);
         most = frame-count (s .frames) (unless _ (badCount (s .frames)) (lent .0)) .high;
-        least = some .1;
+        two = some .1;
         some = some .0;
         possible = all-possible (sitesOf w h) full mask s (unless _ _ (stacked .1));
       }
@@ -143,7 +143,7 @@ module _ (w h full : ℕ) (mask : List ℕ) (s : Stack) where
 
     pub ranged : Ranged (numeratorOf (sitesOf w h) mask s) (denominatorOf (sitesOf w h) mask s)
     ranged =
-        let frames : 0 < s .frames = omega (arith, a .least) in
+        let frames : 0 < s .frames = omega (arith, a .two) in
         record { top = omega (arith, exact); some = mul-pos (a .some) (mul-pos frames frames); bottom = omega (arith, denominator-fits) }
 
   -- what a variance that is answered says

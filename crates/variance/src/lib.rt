@@ -34,9 +34,13 @@ fn scatter_at(frames: u32, code: u8, sum: u32, square: u32) -> u64
     requires { ⌜ frames < 128 ⌝ }
     ensures { λ r. ⌜ r ≡ frames * seenAt code square - seenAt code sum * seenAt code sum ⌝ }
 {
-    let upper = product_at(code, frames as u64 * square as u64);
-    let lower = product_at(code, sum as u64 * sum as u64);
-    if lower < upper { upper - lower } else { 0 }
+    let k_square = product_at(code, frames as u64 * square as u64);
+    let sum_square = product_at(code, sum as u64 * sum as u64);
+    if sum_square < k_square {
+        k_square - sum_square
+    } else {
+        0
+    }
 }
 
 // The sum of k × q − s² over the surveyed sites.

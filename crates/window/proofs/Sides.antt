@@ -6,7 +6,7 @@ use mathlib.Core.Path.{_≡_, refl}
 use native.Mathlib.Nat.{mul-comm, mul-le-mul}
 use native.Mathlib.Omega.{arith}
 use lib.Dec.{eqb, ltb}
-use borrow.Author.Tests.{ltb-false, eqb-true, eqb-false, not-false}
+use borrow.Author.Tests.{ltb-false, le-ltb, eqb-true, eqb-false, ne-eqb, not-false}
 use Rattle.laws.proofs.Cases.{neither, true-or-false}
 use Rattle.window.specs.Shape.{badSide, badSides, badScale, sitesOf, badCount}
 
@@ -82,6 +82,10 @@ frame-count k e =
     let out = neither (eqb k 0) (ltb 100 k) e in
     let some = eqb-false k 0 (out .0) in
     record { low = omega arith; high = ltb-false 100 k (out .1) }
+
+pub is-count : (k : ℕ) → Count k → badCount k ≡ false
+unfolding badCount
+is-count k c = rw (ne-eqb k 0 (λ e. omega (arith, c .low))) (le-ltb 100 k (c .high))
 
 pub record Scale (full : ℕ) : Type 0 where
   pub low : 1 ≤ full

@@ -44,6 +44,15 @@ pub seen-is : (mask frame : List ℕ) (i : ℕ) → seen mask frame i ≡ seenAt
 unfolding seen
 seen-is mask frame i = refl
 
+-- a surveyed site is seen as it is, any other as 0
+pub seen-there : (mask frame : List ℕ) (i : ℕ) → getD mask i 0 ≡ 0 → seen mask frame i ≡ getD frame i 0
+unfolding seen
+seen-there mask frame i e = seen-in (getD mask i 0) (getD frame i 0) e
+
+pub seen-elsewhere : (mask frame : List ℕ) (i : ℕ) → (getD mask i 0 ≡ 0 → ⊥) → seen mask frame i ≡ 0
+unfolding seen
+seen-elsewhere mask frame i e = seen-out (getD mask i 0) (getD frame i 0) e
+
 pub one-is : (mask : List ℕ) (i : ℕ) → one mask i ≡ seenAt (getD mask i 0) 1
 unfolding one
 one-is mask i = refl

@@ -7,7 +7,7 @@ use Rattle.stack.proofs.beyond.Statement.{statement}
 use Rattle.stack.proofs.beyond.Tie as tie
 
 mul-low : tie.Need-mul-low
-mul-low c = omega (arith, times-le (c .args .once) (c .args .least) 65535 65535 (omega arith) (omega arith))
+mul-low c = omega (arith, times-le (c .args .k-or-one) (c .args .least) 65535 65535 (omega arith) (omega arith))
 
 mul-high : tie.Need-mul-high
 mul-high c = omega (arith, times-le (c .args .frames) (c .args .greatest) 65535 65535 (omega arith) (omega arith))

@@ -1,4 +1,4 @@
--- `refuse_impossible` is right because it walks a stack that can be walked, and asks nothing of any other.
+-- `refuse_impossible` is right because it heeds what it finds only of a stack of at most 100 frames that can be walked, and there the rest by 128 is the count.
 use mathlib.Core.Path.{sym, ap, _∙_}
 use native.Mathlib.Omega.{arith}
 use borrow.Author.Needs.{needs}

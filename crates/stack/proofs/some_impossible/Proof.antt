@@ -12,11 +12,11 @@ use Rattle.stack.proofs.some_impossible.Statement.{statement}
 use Rattle.stack.proofs.some_impossible.Tie as tie
 
 abbrev Inv-loop : tie.InvT-loop
-Inv-loop full-scale frames mask sums squares least greatest once most-squares most found₀ i₀ i-end found i =
+Inv-loop full-scale frames mask sums squares least greatest k-or-one most-squares most found₀ i₀ i-end found i =
     (i ≤ i-end) × (i-end ≡ length mask) × (found ≡ impossibleIn i full-scale mask (stackOf frames sums squares least greatest))
 
 abbrev μ-loop : tie.MeasureT-loop
-μ-loop full-scale frames mask sums squares least greatest once most-squares most found₀ i₀ i-end found i = i-end - i
+μ-loop full-scale frames mask sums squares least greatest k-or-one most-squares most found₀ i₀ i-end found i = i-end - i
 
 abbrev Lent : tie.Start Inv-loop μ-loop → Type 0
 Lent c =

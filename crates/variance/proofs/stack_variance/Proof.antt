@@ -1,4 +1,4 @@
--- `stack_variance` is right because it walks and divides only a stack that is not refused, and there both numbers have exact floats.
+-- `stack_variance` is right because what it walks is the numerator wherever nothing is refused, and it divides only there, where both numbers have exact floats.
 use Prim.Native.Nat.{_*_, _≤_}
 use mathlib.Core.Path.{_≡_, sym, _∙_}
 use native.Mathlib.Omega.{arith}
