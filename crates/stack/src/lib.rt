@@ -128,8 +128,8 @@ fn some_impossible(
     found
 }
 
-// Refusal 11 of a stack of at most 100 frames that can be walked; any other is clear here, and has its refusal before. A count to 100 is its own rest by 128: walked by the rest,
-// with no branch on the count before it, its products stay narrow and the walk quick.
+// Refusal 11 of a stack of at most 100 frames that can be walked; any other is clear here, and has its refusal before. A count to 100 is its own rest by
+// 128: walked by the rest, with no branch on the count before it, its products stay narrow and the walk quick.
 pub fn refuse_impossible(
     full_scale: u64,
     frames: u64,
