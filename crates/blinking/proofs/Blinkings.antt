@@ -4,11 +4,9 @@ use mathlib.Core.Bool.{false, _||_}
 use mathlib.Core.List.{List, [], _∷_}
 use mathlib.Core.Path.{_≡_, refl, sym, _∙_}
 use native.Mathlib.Omega.{arith}
-use lib.Dec.{eqb, ltb}
 use lib.ListN.{length}
-use borrow.Author.Tests.{ltb-false, le-ltb, eqb-false, ne-eqb}
 use Rattle.laws.specs.First.{countTo}
-use Rattle.laws.proofs.Cases.{neither}
+use Rattle.laws.proofs.Cases.{neither, Within, within-is, is-within}
 use Rattle.verdict.specs.Verdict.{_⨟_, refuseIf}
 use Rattle.verdict.specs.declared.Refusal.{Refusal}
 use Rattle.verdict.specs.declared.Verdict.the-variants as verdict
@@ -25,20 +23,16 @@ use Rattle.blinking.specs.Blinking.{badSpread, blinks, blinkingVerdict, 
 use Rattle.blinking.specs.declared.Blinking.the-variants.{Sites, Refused}
 
 -- a spread that 3 does not refuse is from 1 to 4,095, and one from 1 to 4,095 it does not refuse
-pub record Spread (n : ℕ) : Type 0 where
-  pub low : 1 ≤ n
-  pub high : n ≤ 4095
+abbrev pub Spread : ℕ → Type 0
+Spread n = Within 4095 n
 
 spread-is : (n : ℕ) → badSpread n ≡ false → Spread n
 unfolding badSpread
-spread-is n e =
-    let out = neither (eqb n 0) (ltb 4095 n) e in
-    let some = eqb-false n 0 (out .0) in
-    record { low = omega arith; high = ltb-false 4095 n (out .1) }
+spread-is n e = within-is 4095 n e
 
 pub is-spread : (n : ℕ) → Spread n → badSpread n ≡ false
 unfolding badSpread
-is-spread n s = rw (ne-eqb n 0 (λ e. omega (arith, s .low))) (le-ltb 4095 n (s .high))
+is-spread n s = is-within 4095 n s
 
 module _ (w h full spread : ℕ) (mask : List ℕ) (s : Stack) where
   -- the tests in the order of document 02, i

@@ -86,6 +86,12 @@ module _ (w h full spread : ℕ) (mask : List ℕ) (s : Stack) where
         shown : (buffer : List ℕ) → seen mask buffer i ≡ getD buffer i 0
         shown buffer = seen-there mask buffer i e
 
+    -- the spread was from 1 to 4,095, and 1 to 100 frames were in
+    pub in-limits : (1 ≤ spread) × (spread ≤ 4095) × (1 ≤ s .frames) × (s .frames ≤ 100)
+    in-limits =
+        let lent = answer-is w h full spread mask s n answer .0 .lent in
+        (lent .wide .low, lent .wide .high, lent .count .low, lent .count .high)
+
     -- no more sites are counted than are surveyed
     pub among-surveyed : n ≤ sumTo (sitesOf w h) (one mask)
     among-surveyed = rw (answer-is w h full spread mask s n answer .1) (blinking-surveyed (sitesOf w h) spread mask (s .least) (s .greatest))

@@ -6,8 +6,8 @@ use mathlib.Core.Path.{_≡_, refl, sym, _∙_}
 use native.Mathlib.Decide.{decLt}
 use native.Mathlib.Nat.{mul-le-mul, mul-le-mul-right, suc-mul}
 use native.Mathlib.Omega.{arith}
-use lib.Dec.{ltb}
-use borrow.Author.Tests.{lt-ltb, le-ltb}
+use lib.Dec.{eqb, ltb}
+use borrow.Author.Tests.{lt-ltb, le-ltb, ltb-false, eqb-false, ne-eqb}
 
 pub lt-or-ge : (a b : ℕ) → (a < b) ⊎ (b ≤ a)
 lt-or-ge a b = by (decLt a b)
@@ -45,6 +45,20 @@ both-ways false false f g = refl
 pub and-true : (a b : Bool) → (a && b) ≡ true → (a ≡ true) × (b ≡ true)
 and-true true b e = (refl, e)
 and-true false b e = absurd (not-both e refl)
+
+-- a number from 1 to a limit, and the test that refuses any other
+pub record Within (most n : ℕ) : Type 0 where
+  pub low : 1 ≤ n
+  pub high : n ≤ most
+
+pub within-is : (most n : ℕ) → (eqb n 0 || ltb most n) ≡ false → Within most n
+within-is most n e =
+    let out = neither (eqb n 0) (ltb most n) e in
+    let some = eqb-false n 0 (out .0) in
+    record { low = omega arith; high = ltb-false most n (out .1) }
+
+pub is-within : (most n : ℕ) → Within most n → (eqb n 0 || ltb most n) ≡ false
+is-within most n w = rw (ne-eqb n 0 (λ e. omega (arith, w .low))) (le-ltb most n (w .high))
 
 -- two tests are one where each holds where the other does
 pub ltb-iff : (a b c d : ℕ) → (a < b → c < d) → (c < d → a < b) → ltb a b ≡ ltb c d

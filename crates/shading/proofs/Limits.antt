@@ -4,8 +4,8 @@ use mathlib.Core.Bool.{false}
 use mathlib.Core.List.{List}
 use mathlib.Core.Path.{_≡_, sym, _∙_}
 use native.Mathlib.Omega.{arith}
-use borrow.Author.Tests.{le-ltb, ne-eqb}
 use Rattle.laws.specs.Table.{held}
+use Rattle.laws.proofs.Cases.{is-within}
 use Rattle.laws.proofs.Tables.{getD-tabulate, tabulate-ext}
 use Rattle.verdict.specs.Verdict.{ifClear}
 use Rattle.verdict.specs.declared.Verdict.{Verdict}
@@ -19,7 +19,7 @@ use Rattle.shading.proofs.Shades.{Eased, eased}
 -- a limit that 3 does not refuse
 good-limit : (limit : ℕ) → 1 ≤ limit → limit ≤ 16 → badLimit limit ≡ false
 unfolding badLimit
-good-limit limit p q = rw (ne-eqb limit 0 (λ e. omega arith), le-ltb 16 limit q)
+good-limit limit p q = is-within 16 limit (record { low = p; high = q })
 
 module _ (w h full black order low high : ℕ) (long : Lengths) (totals counts : List ℕ) (some : 1 ≤ low) (up : low ≤ high) (most : high ≤ 16) where
   same-verdict : judgeVerdict (asked w h full black order low) long totals counts ≡ judgeVerdict (asked w h full black order high) long totals counts

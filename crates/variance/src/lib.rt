@@ -31,7 +31,6 @@ fn product_at(code: u8, product: u64) -> u64
 
 // k × q − s² at a site, as it is seen; 0 where s² is above k × q.
 fn scatter_at(frames: u32, code: u8, sum: u32, square: u32) -> u64
-    requires { ⌜ frames < 128 ⌝ }
     ensures { λ r. ⌜ r ≡ frames * seenAt code square - seenAt code sum * seenAt code sum ⌝ }
 {
     let k_square = product_at(code, frames as u64 * square as u64);

@@ -6,8 +6,8 @@ use mathlib.Core.Path.{_≡_, refl}
 use native.Mathlib.Nat.{mul-comm, mul-le-mul}
 use native.Mathlib.Omega.{arith}
 use lib.Dec.{eqb, ltb}
-use borrow.Author.Tests.{ltb-false, le-ltb, eqb-true, eqb-false, ne-eqb, not-false}
-use Rattle.laws.proofs.Cases.{neither, true-or-false}
+use borrow.Author.Tests.{ltb-false, eqb-true, not-false}
+use Rattle.laws.proofs.Cases.{neither, Within, within-is, is-within, true-or-false}
 use Rattle.window.specs.Shape.{badSide, badSides, badScale, sitesOf, badCount}
 
 pub record Side (n : ℕ) : Type 0 where
@@ -72,28 +72,20 @@ pub turned-sites : (w h : ℕ) → sitesOf h w ≡ sitesOf w h
 unfolding sitesOf
 turned-sites w h = rw (turned-sides w h, mul-comm w h)
 
-pub record Count (k : ℕ) : Type 0 where
-  pub low : 1 ≤ k
-  pub high : k ≤ 100
+abbrev pub Count : ℕ → Type 0
+Count k = Within 100 k
 
 pub frame-count : (k : ℕ) → badCount k ≡ false → Count k
 unfolding badCount
-frame-count k e =
-    let out = neither (eqb k 0) (ltb 100 k) e in
-    let some = eqb-false k 0 (out .0) in
-    record { low = omega arith; high = ltb-false 100 k (out .1) }
+frame-count k e = within-is 100 k e
 
 pub is-count : (k : ℕ) → Count k → badCount k ≡ false
 unfolding badCount
-is-count k c = rw (ne-eqb k 0 (λ e. omega (arith, c .low))) (le-ltb 100 k (c .high))
+is-count k c = is-within 100 k c
 
-pub record Scale (full : ℕ) : Type 0 where
-  pub low : 1 ≤ full
-  pub high : full ≤ 4095
+abbrev pub Scale : ℕ → Type 0
+Scale full = Within 4095 full
 
 pub scale : (full : ℕ) → badScale full ≡ false → Scale full
 unfolding badScale
-scale full e =
-    let out = neither (eqb full 0) (ltb 4095 full) e in
-    let some = eqb-false full 0 (out .0) in
-    record { low = omega arith; high = ltb-false 4095 full (out .1) }
+scale full e = within-is 4095 full e

@@ -9,7 +9,7 @@ use Rattle.variance.proofs.scatter_at.Statement.{statement}
 use Rattle.variance.proofs.scatter_at.Tie as tie
 
 mul-product-at : tie.Need-mul-product-at
-mul-product-at c = omega (arith, times-le (c .args .frames) (c .args .square) 127 4294967295 (omega arith) (omega arith))
+mul-product-at c = omega (arith, times-le (c .args .frames) (c .args .square) 4294967295 4294967295 (omega arith) (omega arith))
 
 product-at-requires : tie.Need-product-at-requires
 product-at-requires c κs = search needs
