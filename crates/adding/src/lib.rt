@@ -1,4 +1,6 @@
 // Adding a frame to a stack: document 01, "Stack", as document 02 i amends it.
+#![tactic(auto)]
+
 ghost use Rattle.std.specs.Prelude.{◌≡◌, ℕ, ◌+◌, ◌^◌, ◌<◌, length, get_or};
 ghost use Rattle.laws.specs.Greatest.{lesser, greater};
 ghost use Rattle.window.specs.View.{seen};

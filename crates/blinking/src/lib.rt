@@ -1,4 +1,6 @@
 // Blinking sites of a stack: document 02, i.
+#![tactic(auto)]
+
 ghost use Rattle.std.specs.Prelude.{◌≡◌, cond, ◌-◌, ◌≤◌, length};
 ghost use Rattle.laws.specs.First.{count_to};
 ghost use Rattle.stack.specs.State.{stack_of};

@@ -1,4 +1,6 @@
 // The block table of colour shading, made and amended: document 02, j.
+#![tactic(auto)]
+
 ghost use Rattle.std.specs.Prelude.{false, ◌≡◌, ◌+◌, ◌*◌, ◌/◌, ◌≤◌, ◌<◌, length, set};
 ghost use Rattle.laws.specs.Table.{held};
 ghost use Rattle.verdict.specs.Verdict.{refusal_over, refuse_with};

@@ -1,4 +1,6 @@
 // Colour ratios of the four planes' centres: document 01, "Colour ratios".
+#![tactic(auto)]
+
 ghost use Rattle.std.specs.Prelude.{◌≡◌, ℕ, ◌-◌, ◌/◌};
 ghost use Rattle.plane.specs.Plane.{box_sums};
 ghost use Rattle.colour.specs.Bayer.{mosaic_of, centres_of};

@@ -1,4 +1,6 @@
 // The dark level: document 01, "Dark level".
+#![tactic(auto)]
+
 ghost use Rattle.std.specs.Prelude.{◌≡◌, cond, ◌≤◌, pos, length};
 ghost use Rattle.laws.specs.Sum.{sum_to};
 ghost use Rattle.window.specs.Walk.{walked};

@@ -1,1 +1,3 @@
 // Document 01's worked examples, over the definitions; no code.
+
+#![tactic(auto)]

@@ -1,4 +1,6 @@
 // Document 01's run-only edges, and those that document 02 i adds: each call is made on both sides of its edge, and what it answers is printed.
+#![tactic(auto)]
+
 use adding::Added;
 use blinking::Blinking;
 use pair::Pair;

@@ -1,4 +1,6 @@
 // Whole numbers: how far two are apart, the size of a signed one, the whole square root, and one rounded division.
+#![tactic(auto)]
+
 ghost use Rattle.std.specs.Prelude.{◌≡◌, nat_abs};
 ghost use Rattle.laws.specs.Signed.{apart};
 ghost use Rattle.exact.specs.Root.{root};

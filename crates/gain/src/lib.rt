@@ -1,4 +1,6 @@
 // The gain of a camera by photon transfer: document 02, e.
+#![tactic(auto)]
+
 ghost use Rattle.std.specs.Prelude.{◌≡◌, ◌||◌, ◌≤◌, ◌<◌, ◌^◌, nat_abs};
 ghost use Rattle.exact.specs.Quotient.{signed_quotient};
 ghost use Rattle.gain.specs.Gain.{out_of_limits, bad_length, bad_ends, too_large, curve_of, point_of, curve_of_rows, transfer_answer, paper_of, transfer_paper};

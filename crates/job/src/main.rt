@@ -1,4 +1,6 @@
 // The job program: one stream on standard input, four lines or one refusal on standard output.
+#![tactic(auto)]
+
 use stream::Answer;
 use verdict::Refusal;
 

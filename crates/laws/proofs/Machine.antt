@@ -33,7 +33,7 @@ nat_is n h = record { val = to_z-of_z {w = w64} {z = pos n} (nat_fits n h) ∙ s
 
 -- a signed number as it is laid down
 pub laid_is : (z : ℤ) (a b : ℕ) → z ≡ a ⊖ b → a < 2 ^ 63 → b < 2 ^ 63 → Is (of_z w64 z) a b
-laid_is z a b e p q = record { val = to_z-of_z (rw e (⊖-fits a b p q)) ∙ e; up = p; down = q }
+laid_is z a b e p q = record { val = to_z-of_z {w = w64} (rw e (⊖-fits a b p q)) ∙ e; up = p; down = q }
 
 -- the same number by two other parts
 pub is_as : {x a b : ℕ} (c d : ℕ) → Is x a b → a + d ≡ c + b → c < 2 ^ 63 → d < 2 ^ 63 → Is x c d
@@ -44,13 +44,13 @@ module _ {x y a b c d : ℕ} (i : Is x a b) (j : Is y c d) where
   add_fits p q = rw (i.val, j.val, ⊖-add a b c d) (⊖-fits (a + c) (b + d) p q)
 
   pub add_is : a + c < 2 ^ 63 → b + d < 2 ^ 63 → Is (of_z w64 (to_z w64 x +ℤ to_z w64 y)) (a + c) (b + d)
-  add_is p q = record { val = to_z-of_z (add_fits p q) ∙ rw (i.val, j.val) (⊖-add a b c d); up = p; down = q }
+  add_is p q = record { val = to_z-of_z {w = w64} (add_fits p q) ∙ rw (i.val, j.val) (⊖-add a b c d); up = p; down = q }
 
   pub sub_fits : a + d < 2 ^ 63 → b + c < 2 ^ 63 → SFits w64 (to_z w64 x -ℤ to_z w64 y)
   sub_fits p q = rw (i.val, j.val, ⊖-sub a b c d) (⊖-fits (a + d) (b + c) p q)
 
   pub sub_is : a + d < 2 ^ 63 → b + c < 2 ^ 63 → Is (of_z w64 (to_z w64 x -ℤ to_z w64 y)) (a + d) (b + c)
-  sub_is p q = record { val = to_z-of_z (sub_fits p q) ∙ rw (i.val, j.val) (⊖-sub a b c d); up = p; down = q }
+  sub_is p q = record { val = to_z-of_z {w = w64} (sub_fits p q) ∙ rw (i.val, j.val) (⊖-sub a b c d); up = p; down = q }
 
 -- a difference times a number that was cast
 module _ {x a b : ℕ} (n : ℕ) (i : Is x a b) (small : n < 2 ^ 63) (p : a * n < 2 ^ 63) (q : b * n < 2 ^ 63) where
@@ -61,7 +61,7 @@ module _ {x a b : ℕ} (n : ℕ) (i : Is x a b) (small : n < 2 ^ 63) (p : a * n 
   scale_fits = rw (product, ⊖-scale a b n) (⊖-fits (a * n) (b * n) p q)
 
   pub scale_is : to_z w64 (of_z w64 (to_z w64 x *ℤ to_z w64 n)) ≡ (a ⊖ b) *ℤ pos n
-  scale_is = to_z-of_z scale_fits ∙ product
+  scale_is = to_z-of_z {w = w64} scale_fits ∙ product
 
 -- a difference of two numbers that were cast
 module _ (x y : ℕ) (p : x < 2 ^ 63) (q : y < 2 ^ 63) where

@@ -1,4 +1,6 @@
 // Defective rows and columns, by one walk over the lines of the four planes: document 01, "Defective rows and columns".
+#![tactic(auto)]
+
 ghost use Rattle.std.specs.Prelude.{◌≡◌, ℕ, ◌+◌, ◌*◌, ◌/◌, ◌%◌, ◌<◌, ◌≤◌, length, get_or};
 ghost use Rattle.laws.specs.Table.{tabulate};
 ghost use Rattle.window.specs.View.{seen, one};

@@ -1,4 +1,6 @@
 // The noise of a pair of frames: document 01, "Pair noise", as document 02 f merges its two calls.
+#![tactic(auto)]
+
 ghost use Rattle.std.specs.Prelude.{◌≡◌, ◌*◌, ◌^◌, ◌≤◌, ◌<◌, length};
 ghost use Rattle.laws.specs.Signed.{apart};
 ghost use Rattle.window.specs.View.{one, seen};

@@ -1,4 +1,6 @@
 // Pattern noise of a stack, vertical and horizontal by one walk over lines: document 01, "Pattern noise", as document 02 c amends it.
+#![tactic(auto)]
+
 ghost use Rattle.std.specs.Prelude.{◌≡◌, ℕ, ◌+◌, ◌*◌, ◌<◌, ◌≤◌, length};
 ghost use Rattle.laws.specs.First.{some_to};
 ghost use Rattle.laws.specs.Sum.{sum_in};

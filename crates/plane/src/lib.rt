@@ -1,4 +1,6 @@
 // The four planes of a window, and what is seen in a box of one, or of two that share their rows: document 01, "Defective sites", "Colour ratios"; document 02, j.
+#![tactic(auto)]
+
 ghost use Rattle.std.specs.Prelude.{◌≡◌, ℕ, ◌+◌, ◌*◌, ◌/◌, ◌≤◌, ◌<◌, min, length};
 ghost use Rattle.laws.specs.Sum.{sum_in, sum_box};
 ghost use Rattle.window.specs.View.{seen_at, seen, one};
@@ -16,7 +18,7 @@ pub struct PlaneBox {
 }
 
 // How many sites are surveyed, and the sum of their samples: those of a plane fit.
-#[derive(Drop)]
+#[derive(Clone, Copy)]
 pub struct Sums {
     pub count: u16,
     pub total: u32,

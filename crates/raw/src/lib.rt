@@ -1,4 +1,6 @@
 // RAW10 unpacked: document 01, "RAW10".
+#![tactic(auto)]
+
 ghost use Rattle.std.specs.Prelude.{◌≡◌, ◌*◌, ◌<◌, length};
 ghost use Rattle.laws.specs.Table.{tabulate};
 ghost use Rattle.raw.specs.Packed.{joined, sample10};

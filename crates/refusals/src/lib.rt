@@ -1,4 +1,6 @@
 // Refusals 1 to 6, which calls with a mask share: document 01, "Refusal numbers", as document 02 d amends 6.
+#![tactic(auto)]
+
 ghost use Rattle.std.specs.Prelude.{cond, ◌≡◌, ◌*◌, ◌≤◌, ltb, length};
 ghost use Rattle.laws.specs.First.{first_to, some_to, count_to};
 ghost use Rattle.window.specs.Walk.{walked};

@@ -1,4 +1,6 @@
 // Repair: document 01, "Repair". Frame and mask are read as they came in, and others are written.
+#![tactic(auto)]
+
 ghost use Rattle.std.specs.Prelude.{◌≡◌, false, ◌-◌, ◌*◌, ◌<◌, ◌≤◌, length};
 ghost use Rattle.laws.specs.Table.{tabulate};
 ghost use Rattle.window.specs.Shape.{bad_sides, sites_of};

@@ -1,4 +1,6 @@
 // Colour shading: each block's ratios beside the centre's, by a block table: document 02, j.
+#![tactic(auto)]
+
 ghost use Rattle.std.specs.Prelude.{cond, ◌≡◌, ◌+◌, ◌*◌, ◌%◌, ◌^◌, ◌≤◌, ◌<◌, nat_abs, length};
 ghost use Rattle.laws.specs.Table.{held};
 ghost use Rattle.plane.specs.Plane.{sums};

@@ -1,4 +1,6 @@
 // Defective sites: document 01, "Defective sites", as document 02 g amends it, by running totals (02 b). The mask is read as it came in, and another is written.
+#![tactic(auto)]
+
 ghost use Rattle.std.specs.Prelude.{◌≡◌, false, ◌+◌, ◌-◌, ◌*◌, ◌%◌, ◌<◌, ◌≤◌, min, length};
 ghost use Rattle.laws.specs.Table.{held, tabulate};
 ghost use Rattle.window.specs.Shape.{bad_sides, sites_of};

@@ -1,4 +1,6 @@
 // A stack of frames, and refusal 11 of it: document 01, "Stack", as document 02 i amends it.
+#![tactic(auto)]
+
 ghost use Rattle.std.specs.Prelude.{◌≡◌, true, ◌≤◌, ◌<◌, length};
 ghost use Rattle.verdict.specs.Verdict.{◌⨟◌, refuse_if};
 ghost use Rattle.refusals.specs.Judge.{length_of};

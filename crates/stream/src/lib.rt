@@ -1,4 +1,6 @@
 // A job in a stream of tagged fields: document 01, "Job program".
+#![tactic(auto)]
+
 ghost use Rattle.std.specs.Prelude.{◌≡◌, ◌+◌, ◌*◌, ◌<◌, ◌≤◌, length, get_or, take};
 ghost use Rattle.verdict.specs.declared.Verdict.TheVariants.{Clear};
 ghost use Rattle.window.specs.Shape.{sites_of};

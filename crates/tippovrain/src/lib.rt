@@ -1,4 +1,6 @@
 // The C interface, include/tippovrain.h: each function is the call of its name, with every number of its answer in a place of its own.
+#![tactic(auto)]
+
 mod colours;
 mod defects;
 mod gains;

@@ -1,4 +1,6 @@
 // The variance of a stack: document 01, "Stack", as document 02 i amends it.
+#![tactic(auto)]
+
 ghost use Rattle.std.specs.Prelude.{◌≡◌, ◌-◌, ◌*◌, ◌≤◌, ◌<◌, length};
 ghost use Rattle.laws.specs.Sum.{sum_to};
 ghost use Rattle.window.specs.Walk.{walked};

@@ -218,6 +218,7 @@ pub record Refuses (number place : ℕ) (Untouched : Type 0) : Type 0 where
 number-above : (ts : List Test) {r : Refusal} → numbered ts ≡ true → Given ts r → 0 < r.number
 number-above (t ∷ ts) e (here a) = ltb-true 0 t.refusal.number (and_true (ltb 0 t.refusal.number) (numbered ts) e).0
 number-above (t ∷ ts) e (later a g) = number-above ts (and_true (ltb 0 t.refusal.number) (numbered ts) e).1 g
+number-above [] {r = r} e x'' = elim x'' [ ]
 
 -- a verdict whose number is 0 refuses nothing
 pub zero_clear : {ts : List Test} (v : Verdict) → Tabled v ts → numbered ts ≡ true → number_of v ≡ 0 → v ≡ Clear
@@ -243,6 +244,7 @@ unplaced (t ∷ ts) = eqb t.refusal.place 0 && unplaced ts
 given_unplaced : (ts : List Test) {r : Refusal} → unplaced ts ≡ true → Given ts r → r.place ≡ 0
 given_unplaced (t ∷ ts) e (here a) = eqb-true t.refusal.place 0 (and_true (eqb t.refusal.place 0) (unplaced ts) e).0
 given_unplaced (t ∷ ts) e (later a g) = given_unplaced ts (and_true (eqb t.refusal.place 0) (unplaced ts) e).1 g
+given_unplaced [] {r = r} e x'' = elim x'' [ ]
 
 pub never_placed : {ts : List Test} (v : Verdict) → Tabled v ts → unplaced ts ≡ true → place_of v ≡ 0
 never_placed Clear t u = refl
@@ -284,6 +286,7 @@ given_six (t ∷ ts) {samples = samples} c (later a g) e = given_six ts (by (eqb
     by : (b : Bool) → Counting samples (cond b (t ∷ sixes ts) (sixes ts)) → Counting samples (sixes ts)
     by true (also same some rest) = rest
     by false c = c
+given_six [] {r = r} {samples = samples} c x3 e = elim x3 [ ]
 
 -- and what it gives at another number counts nothing
 given_other : (ts : List Test) {r : Refusal} → others_uncounted ts ≡ true → Given ts r → (r.number ≡ 6 → ⊥) → r.over ≡ 0
@@ -292,6 +295,7 @@ given_other (t ∷ ts) e (here a) other =
     (rw (ne_eqb t.refusal.number 6 other) at (and_true (cond (eqb t.refusal.number 6) true (eqb t.refusal.over 0)) (others_uncounted ts) e).0)
 given_other (t ∷ ts) e (later a g) other =
     given_other ts (and_true (cond (eqb t.refusal.number 6) true (eqb t.refusal.over 0)) (others_uncounted ts) e).1 g other
+given_other [] {r = r} e x3 other = elim x3 [ ]
 
 -- THE LAW: of any verdict that a table says in which 6 alone counts
 pub over_at_six : {ts : List Test} {samples : ℕ} (v : Verdict) → Tabled v ts → others_uncounted ts ≡ true → Counting samples (sixes ts)
@@ -336,3 +340,4 @@ never_given {ts} {n} (Refused r) t i some e = by ts i (t.only r refl) e
         let still = not-true (eqb u.refusal.number n && u.applies) (and_true (not (eqb u.refusal.number n && u.applies)) (idle n us) i).0 in
         not_both a (rw (eq-eqb u.refusal.number n e) at still)
     by (u ∷ us) i (later a g) e = by us (and_true (not (eqb u.refusal.number n && u.applies)) (idle n us) i).1 g e
+    by [] i x7 e = elim x7 [ ]

@@ -1,4 +1,6 @@
 // Verdicts in turn, and the refusal that the first of them gives: document 01, "Refusal numbers", as document 02 d amends them.
+#![tactic(auto)]
+
 ghost use Rattle.std.specs.Prelude.{◌≡◌};
 ghost use Rattle.verdict.specs.Verdict.{◌⨟◌, refuse_if};
 

@@ -1,4 +1,6 @@
 // A window: its sides and full scale, its mask, and what is seen through it.
+#![tactic(auto)]
+
 ghost use Rattle.std.specs.Prelude.{◌≡◌, ◌≤◌, length};
 ghost use Rattle.laws.specs.First.{some_to};
 ghost use Rattle.laws.specs.Sum.{sum_to};

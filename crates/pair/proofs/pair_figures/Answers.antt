@@ -1,0 +1,56 @@
+-- `pair_figures` is right because 1 to 6 are judged before the walk and 7 after it, which is the definition's order, and what passes is within the bounds of `figures_of`.
+use mathlib.Core.Path.{◌≡◌, sym, ap, ◌∙◌}
+use borrow.Author.Rules.{rules}
+use Rattle.verdict.specs.declared.Verdict.TheVariants as verdict
+use Rattle.refusals.specs.Judge.{frames_verdict}
+use Rattle.pair.specs.Figures.{figures_of}
+use Rattle.pair.specs.Pair.{pair_verdict}
+use Rattle.pair.proofs.Accepts.{lent}
+use Rattle.pair.proofs.Answers.{frames_refused, same_spread, rest, in_bounds, refused_is, accepted_is}
+use Rattle.pair.proofs.pair_figures.Goals as goal
+use Rattle.pair.proofs.pair_figures.Goals.{After-refuse_if, In_default}
+
+-- past the judge, 1 to 6 refuse nothing
+module _ (c : In_default) where
+  abbrev begun : tie.Start
+  begun = c
+
+  cleared : frames_verdict begun.args.width begun.args.height begun.args.full_scale begun.args.mask.now begun.args.first.now begun.args.second.now ≡ verdict.Clear
+  cleared = sym c.judge_frames-frames.ensures ∙ c.enum_told-1.given.1
+
+-- and past the walk, 7 is the verdict
+seven : (c : After-refuse_if) → let a = (begun c).args in
+    c.refuse_if.result ≡ pair_verdict a.width a.height a.full_scale a.mask.now a.first.now a.second.now
+seven c = c.refuse_if.ensures ∙ rest _ _ _ _ _ _ _ (cleared c) c.spread_of-s.ensures
+
+pub returns-in-Refused-clause-answer : goal.returns-in-Refused-clause-answer
+-- OLD ['answer', 'paper'] refused_is _ _ _ _ _ _ _ (frames_refused _ _ _ _ _ _ _ (sym c.judge_frames-frames.ensures ∙ c.frames-1.given.1))
+returns-in-Refused-clause-answer c = ?
+
+pub returns-in-Refused-clause-paper : goal.returns-in-Refused-clause-paper
+-- OLD ['answer', 'paper'] refused_is _ _ _ _ _ _ _ (frames_refused _ _ _ _ _ _ _ (sym c.judge_frames-frames.ensures ∙ c.frames-1.given.1))
+returns-in-Refused-clause-paper c = ?
+
+pub spread_of-s-requires : goal.spread_of-s-requires
+spread_of-s-requires c = lent _ _ _ _ _ _ (cleared c)
+
+pub figures_of-requires : goal.figures_of-requires
+figures_of-requires c = in_bounds _ _ _ _ _ _ _ (cleared c) c.spread_of-s.ensures (sym (seven (goal.at.figures_of-requires c).After-refuse_if) ∙ c.enum_told-in-Clear-1.given.1)
+
+pub returns-in-Refused-refuse_if-clause-answer : goal.returns-in-Refused-refuse_if-clause-answer
+-- OLD ['answer', 'paper'] refused_is _ _ _ _ _ _ _ (sym (seven (goal.at.returns-in-Refused-refuse_if c).After-refuse_if) ∙ c.refusal-1.given.1)
+returns-in-Refused-refuse_if-clause-answer c = ?
+
+pub returns-in-Refused-refuse_if-clause-paper : goal.returns-in-Refused-refuse_if-clause-paper
+-- OLD ['answer', 'paper'] refused_is _ _ _ _ _ _ _ (sym (seven (goal.at.returns-in-Refused-refuse_if c).After-refuse_if) ∙ c.refusal-1.given.1)
+returns-in-Refused-refuse_if-clause-paper c = ?
+
+pub returns-in-Clear-clause-answer : goal.returns-in-Clear-clause-answer
+-- OLD ['answer', 'paper'] accepted_is _ _ _ _ _ _ _ (sym (seven (goal.at.returns-in-Clear c).After-refuse_if) ∙ c.enum_told-in-Clear-1.given.1)
+--     (c.figures_of.ensures ∙ ap figures_of (same_spread _ _ _ _ _ _ _ (cleared c) c.spread_of-s.ensures))
+returns-in-Clear-clause-answer c = ?
+
+pub returns-in-Clear-clause-paper : goal.returns-in-Clear-clause-paper
+-- OLD ['answer', 'paper'] accepted_is _ _ _ _ _ _ _ (sym (seven (goal.at.returns-in-Clear c).After-refuse_if) ∙ c.enum_told-in-Clear-1.given.1)
+--     (c.figures_of.ensures ∙ ap figures_of (same_spread _ _ _ _ _ _ _ (cleared c) c.spread_of-s.ensures))
+returns-in-Clear-clause-paper c = ?

@@ -1,0 +1,30 @@
+use Prim.Native.Nat.{◌-◌, ◌≤◌}
+use mathlib.Core.Path.{◌≡◌}
+use native.Mathlib.Omega.{arith}
+use lib.ListN.{length}
+use borrow.Author.Rules.{rules}
+use Rattle.window.proofs.Views.{seen_le}
+use Rattle.pair.proofs.Walk.{Walked, walk_begins, walk_more, walk_ends}
+use Rattle.pair.proofs.sums.Goals as goal
+use Rattle.pair.proofs.sums.Goals.{After-seen_at}
+
+pub loop-i-init : goal.loop-i-init
+loop-i-init c = (search rules, search rules, walk_begins _ _ _)
+
+pub loop-i-preserved : goal.loop-i-preserved
+loop-i-preserved c = let loop = c.loop-i in
+    let i = loop.i in (
+      omega arith,
+      loop.invariant.1,
+      walk_more _ _ _ _ _ _ _ loop.invariant.2
+          (c.shared_slice_known-in-loop-i-2-1.given i).fits
+          (c.shared_slice_known-in-loop-i-3-1.given i).fits
+          c.seen_at.ensures
+          c.seen_at-x.ensures
+          c.seen_at-y.ensures
+          c.squared-squares.ensures,
+    )
+
+pub returns-clause-value : goal.returns-clause-value
+-- OLD ['value', 'n_bound'] walk_ends _ _ _ _ c.loop-i.invariant.2 (omega arith) (omega arith)
+returns-clause-value c = ?

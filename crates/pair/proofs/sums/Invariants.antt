@@ -1,0 +1,15 @@
+-- `sums` is right because each turn adds to every sum what is seen at one more site.
+use Prim.Native.Nat.{◌-◌, ◌≤◌}
+use mathlib.Core.Path.{◌≡◌}
+use native.Mathlib.Omega.{arith}
+use lib.ListN.{length}
+use borrow.Author.Rules.{rules}
+use Rattle.window.proofs.Views.{seen_le}
+use Rattle.pair.proofs.Walk.{Walked, walk_begins, walk_more, walk_ends}
+use Rattle.pair.proofs.sums.Given as goal
+
+abbrev pub invariant-loop-i : goal.invariant-loop-i
+invariant-loop-i l = (l.i ≤ l.i-end) × (l.i-end ≡ length l.mask) × Walked l.mask l.first l.second l.i l.n l.of_first l.of_second l.squares
+
+abbrev pub decreases-loop-i : goal.decreases-loop-i
+decreases-loop-i l = l.i-end - l.i

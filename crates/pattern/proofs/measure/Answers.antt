@@ -1,0 +1,44 @@
+use Prim.Native.Nat.{ℕ, ◌-◌, ◌*◌, ◌≤◌}
+use mathlib.Core.Path.{◌≡◌, refl, ap, ◌∙◌}
+use native.Mathlib.Omega.{arith}
+use borrow.Author.Rules.{rules}
+use Rattle.laws.specs.Table.{held, tabulate}
+use Rattle.laws.specs.Sum.{sum_to}
+use Rattle.laws.proofs.Cases.{times_le}
+use Rattle.pattern.specs.Walk.{with_row, Possible}
+use Rattle.pattern.proofs.Measures.{row_ready, totals_ready, totals_figures}
+use Rattle.pattern.proofs.Totals.{passed, row_more, side_le}
+use Rattle.pattern.proofs.measure.Goals as goal
+use Rattle.pattern.proofs.measure.Goals.{After-line_of, After-loop-y}
+
+-- after the last row
+ended : (c : After-loop-y)
+    → c.loop-y.totals
+    ≡ tabulate 128 (passed c.args.vertical c.args.width (held c.args.sums.now) c.args.height)
+ended c =
+    let e : c.loop-y.y ≡ c.args.height = omega arith in
+    c.loop-y.invariant.1 ∙ ap (λ (y : ℕ). tabulate 128 (passed c.args.vertical c.args.width (held c.args.sums.now) y)) e
+
+ready : (c : After-line_of)
+    → (12 ≤ c.line_of.result)
+    × (c.line_of.result ≤ 128)
+    × (c.Line-of.result * (c).args.frames * (c).args.full_scale ≤ 52416000)
+    × Possible c.line_of.result c.loop-y.totals
+ready c =
+    totals_ready _ _ _ _ _ _ c.requires.1 _ (ended c) _ _ c.line_of.ensures c.Line-of.ensures c.requires.0
+
+pub loop-y-init : goal.loop-y-init
+unfolding tabulate sum_to
+loop-y-init c = (omega arith, refl)
+
+pub add_row-requires : goal.add_row-requires
+add_row-requires c = row_ready _ _ _ _ _ _ c.requires.1 _ _ c.loop-y-test.true (λ i. omega (arith, c.shared_slice_known-1.given i)) c.loop-y.invariant.1
+
+pub loop-y-preserved : goal.loop-y-preserved
+loop-y-preserved c = (omega arith, c.add_row.ensures ∙ ap (with_row _ _ _ _) c.loop-y.invariant.1 ∙ row_more _ _ _ _)
+
+pub figures_of-requires : goal.figures_of-requires
+figures_of-requires c = ready (goal.at.figures_of-requires c).After-line_of
+
+pub returns : goal.returns
+returns c = c.figures_of.ensures ∙ totals_figures _ _ _ _ _ _ c.requires.1 _ (ended (goal.at.returns c).After-loop-y) _ _ c.line_of.ensures c.Line-of.ensures c.requires.0

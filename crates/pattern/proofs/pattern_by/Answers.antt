@@ -1,0 +1,37 @@
+-- `pattern_by` is right because it measures only what nothing refuses, and then every sum is seen.
+use mathlib.Core.Path.{◌≡◌, sym, ◌∙◌}
+use borrow.Author.Rules.{rules}
+use Rattle.verdict.specs.declared.Verdict.TheVariants as verdict
+use Rattle.pattern.proofs.Judges.{Clean, clean, figures_seen, refused_is, accepted_is}
+use Rattle.pattern.specs.Pattern.{pattern_verdict}
+use Rattle.pattern.specs.Walk.{lined}
+use Rattle.pattern.proofs.pattern_by.Goals as goal
+use Rattle.pattern.proofs.pattern_by.Goals.{In-Clear}
+
+cleared : (c : In-Clear)
+    → pattern_verdict (lined c.args.vertical) c.args.width c.args.height c.args.full_scale c.args.frames c.args.mask.now c.args.sums.now
+    ≡ verdict.Clear
+cleared c = sym c.judge.ensures ∙ c.enum_told-1.given.1
+
+passed : (c : In-Clear)
+    → Clean c.args.vertical c.args.width c.args.height c.args.full_scale c.args.frames c.args.mask.now c.args.sums.now
+passed c = clean _ _ _ _ _ _ _ (cleared c)
+
+pub measure-requires : goal.measure-requires
+measure-requires c = ((passed (goal.at.measure-requires c).In-Clear).enough, (passed (goal.at.measure-requires c).In-Clear).fair)
+
+pub returns-in-Refused-clause-answer : goal.returns-in-Refused-clause-answer
+-- OLD ['answer', 'paper'] refused_is _ _ _ _ _ _ _ _ (sym c.judge.ensures ∙ c.refusal-1.given.1)
+returns-in-Refused-clause-answer c = ?
+
+pub returns-in-Refused-clause-paper : goal.returns-in-Refused-clause-paper
+-- OLD ['answer', 'paper'] refused_is _ _ _ _ _ _ _ _ (sym c.judge.ensures ∙ c.refusal-1.given.1)
+returns-in-Refused-clause-paper c = ?
+
+pub returns-in-Clear-clause-answer : goal.returns-in-Clear-clause-answer
+-- OLD ['answer', 'paper'] accepted_is _ _ _ _ _ _ _ _ (cleared (goal.at.returns-in-Clear c).In-Clear) (c.measure.ensures ∙ figures_seen _ _ _ _ _ _ _ (passed (goal.at.returns-in-Clear c).In-Clear))
+returns-in-Clear-clause-answer c = ?
+
+pub returns-in-Clear-clause-paper : goal.returns-in-Clear-clause-paper
+-- OLD ['answer', 'paper'] accepted_is _ _ _ _ _ _ _ _ (cleared (goal.at.returns-in-Clear c).In-Clear) (c.measure.ensures ∙ figures_seen _ _ _ _ _ _ _ (passed (goal.at.returns-in-Clear c).In-Clear))
+returns-in-Clear-clause-paper c = ?

@@ -1,0 +1,9 @@
+-- `step` is right because it squares how far apart the two totals are.
+use mathlib.Core.Path.{refl}
+use native.Mathlib.Omega.{arith}
+use borrow.Author.Rules.{rules}
+use Rattle.pattern.proofs.Figuring.{step_le}
+use Rattle.pattern.proofs.step.Goals as goal
+
+pub returns : goal.returns
+returns c = rw c.apart-d.ensures (refl, step_le c.args.here c.args.next (omega arith) (omega arith))

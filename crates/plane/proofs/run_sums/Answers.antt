@@ -1,0 +1,12 @@
+use Prim.Native.Nat.{ℕ, ◌+◌, ◌-◌, ◌*◌, ◌≤◌, ◌<◌}
+use native.Mathlib.Omega.{arith}
+use lib.ListN.{length}
+use Rattle.plane.proofs.Runs.{Run, run_none, run_more, run_done}
+use Rattle.plane.proofs.run_sums.Goals as goal
+use Rattle.plane.proofs.run_sums.Goals.{In-loop-v}
+
+pub loop-v-init : goal.loop-v-init
+loop-v-init c = (omega arith, omega arith, run_none)
+
+pub loop-v-preserved : goal.loop-v-preserved
+loop-v-preserved c = (omega arith, omega arith, run_more _ c.loop-v.invariant.2 c.loop-v.invariant.0 c.with_site-sums.ensures.count_value c.with_site-sums.ensures.total_value)

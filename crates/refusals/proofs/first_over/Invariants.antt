@@ -1,0 +1,23 @@
+-- `first_over` is right because nothing that is seen at a site passed is above full scale: it stops at the first that is, or past the last.
+use Prim.Native.Nat.{◌*◌, ◌-◌, ◌<◌}
+use mathlib.Core.Path.{◌≡◌, sym, ap, ◌∙◌}
+use native.Mathlib.Omega.{arith}
+use lib.Dec.{ltb}
+use borrow.Author.Rules.{rules}
+use borrow.Author.Tests.{lt-ltb, le-ltb}
+use Rattle.window.specs.View.{above, seen}
+use Rattle.window.proofs.Views.{seen_is}
+use Rattle.refusals.proofs.Searches.{AtRow, AtSite, search_begins, row_begins, site_in, site_passed, row_passed, search_ends, search_stops}
+use Rattle.refusals.proofs.first_over.Given as goal
+
+abbrev pub invariant-loop-column : goal.invariant-loop-column
+invariant-loop-column l = AtSite (above l.full_scale (seen l.mask l.frame)) l.width l.row l.column l.site
+
+abbrev pub decreases-loop-column : goal.decreases-loop-column
+decreases-loop-column l = l.width - l.column
+
+abbrev pub invariant-rows : goal.invariant-rows
+invariant-rows l = AtRow (above l.full_scale (seen l.mask l.frame)) l.width l.height l.row l.site
+
+abbrev pub decreases-rows : goal.decreases-rows
+decreases-rows l = l.height - l.row

@@ -1,0 +1,16 @@
+-- `some_code_above` is right because each turn asks the test of one index more.
+use Prim.Native.Nat.{ℕ, ◌-◌, ◌≤◌}
+use mathlib.Core.Path.{◌≡◌, refl, sym, ap, ◌∙◌}
+use native.Mathlib.Omega.{arith}
+use lib.ListN.{length}
+use borrow.Author.Rules.{rules}
+use Rattle.laws.proofs.Firsts.{some_none, some_more}
+use Rattle.laws.specs.First.{some_to}
+use Rattle.window.specs.View.{code_above}
+use Rattle.window.proofs.some_code_above.Given as goal
+
+abbrev pub invariant-loop-i : goal.invariant-loop-i
+invariant-loop-i l = (l.i ≤ l.i-end) × (l.i-end ≡ length l.mask) × (l.found ≡ some_to l.i (code_above l.code l.mask))
+
+abbrev pub decreases-loop-i : goal.decreases-loop-i
+decreases-loop-i l = l.i-end - l.i
