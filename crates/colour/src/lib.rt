@@ -34,7 +34,7 @@ pub struct Mosaic {
 }
 
 // What is seen in the centre of each colour's plane.
-#[derive(Drop)]
+#[derive(Clone, Copy)]
 struct Centres {
     r: Sums,
     gr: Sums,

@@ -9,7 +9,7 @@ ghost use Rattle.gain.specs.Walk.{is_chosen, Room, summed, topped, with_point, n
 use verdict::{Refusal, Verdict};
 
 // One exposure of a camera: mean and variance in sixteenths, of a grey level and of one squared. Exposure is the caller's own.
-#[derive(Drop)]
+#[derive(Clone, Copy)]
 pub struct Point {
     pub exposure: u64,
     pub mean: u64,
@@ -32,7 +32,7 @@ pub enum Transfer {
 }
 
 // Sums over the chosen points, x being the mean and y the variance.
-#[derive(Drop)]
+#[derive(Clone, Copy)]
 struct Sums {
     x: u64,
     y: u64,
@@ -41,14 +41,14 @@ struct Sums {
 }
 
 // The greatest variance so far, and its first place.
-#[derive(Drop)]
+#[derive(Clone, Copy)]
 struct Peak {
     top: u64,
     place: usize,
 }
 
 // What is known after some points of a list.
-#[derive(Drop)]
+#[derive(Clone, Copy)]
 struct Fit {
     beyond: bool,
     sums: Sums,
@@ -56,7 +56,7 @@ struct Fit {
 }
 
 // The slope's two parts.
-#[derive(Drop)]
+#[derive(Clone, Copy)]
 struct Parts {
     numerator: i64,
     denominator: u64,

@@ -9,7 +9,7 @@ ghost use Rattle.plane.specs.Plane.{site_at, box_sums, pair_sums};
 ghost use Rattle.plane.specs.Walk.{Inner};
 
 // A box of a plane's coordinates: rows from top to before bottom, columns from left to before right.
-#[derive(Drop)]
+#[derive(Clone, Copy)]
 pub struct PlaneBox {
     pub top: usize,
     pub bottom: usize,

@@ -17,34 +17,30 @@ use Rattle.dark.proofs.dark_level.Goals.{In-Clear}
 
 clear : (c : In-Clear)
     → dark_verdict c.args.width c.args.height c.args.full_scale c.args.black_level c.args.mask.now c.args.frame.now ≡ verdict.Clear
-clear c = sym c.judge.ensures ∙ c.enum_told-1.given.1
+clear c = sym c.judge.ensures ∙ c.in-Clear.is
 
 pub above_black-requires : goal.above_black-requires
 above_black-requires c = let a = accepted _ _ _ _ _ _ (clear (goal.at.above_black-requires c).In-Clear) in
     (a.dark, a.lent.framed ∙ sym a.lent.of.masked, omega (arith, sites-few c.args.width c.args.height, a.lent.of.masked))
 
 pub returns-in-Refused-clause-answer : goal.returns-in-Refused-clause-answer
--- OLD ['answer', 'paper'] refused_is _ _ _ _ _ _ _ (sym c.judge.ensures ∙ c.refusal-1.given.1)
-returns-in-Refused-clause-answer c = ?
+returns-in-Refused-clause-answer c = (refused_is _ _ _ _ _ _ _ (sym c.judge.ensures ∙ c.in-Refused.is)).0
 
 pub returns-in-Refused-clause-paper : goal.returns-in-Refused-clause-paper
--- OLD ['answer', 'paper'] refused_is _ _ _ _ _ _ _ (sym c.judge.ensures ∙ c.refusal-1.given.1)
-returns-in-Refused-clause-paper c = ?
+returns-in-Refused-clause-paper c = (refused_is _ _ _ _ _ _ _ (sym c.judge.ensures ∙ c.in-Refused.is)).1
 
 pub returns-in-Clear-clause-answer : goal.returns-in-Clear-clause-answer
--- OLD ['answer', 'paper'] let args = (c).args in
---     let whole = (accepted _ _ _ _ _ _ (clear (goal.at.returns-in-Clear c).In-Clear)).lent.of.masked in
---     let back : to_z w64 (of_z w64 c.above_black.result) ≡ c.above_black.result = search rules in
---     accepted_is _ _ _ _ _ _ (clear (goal.at.returns-in-Clear c).In-Clear) _ _
---     (back ∙ c.above_black.ensures ∙ ap (λ (n : ℕ). above_black n args.black_level (seen args.mask.now args.frame.now) (one args.mask.now)) whole)
---     (c.surveyed-count.ensures ∙ ap (λ (n : ℕ). sum_to n (one args.mask.now)) (walked_whole _ _ _ whole))
-returns-in-Clear-clause-answer c = ?
+returns-in-Clear-clause-answer c = let args = (c).args in
+    let whole = (accepted _ _ _ _ _ _ (clear (goal.at.returns-in-Clear-clause-answer c).In-Clear)).lent.of.masked in
+    let back : to_z w64 (of_z w64 c.above_black.result) ≡ c.above_black.result = search rules in
+    (accepted_is _ _ _ _ _ _ (clear (goal.at.returns-in-Clear-clause-answer c).In-Clear) _ _
+    (back ∙ c.above_black.ensures ∙ ap (λ (n : ℕ). above_black n args.black_level (seen args.mask.now args.frame.now) (one args.mask.now)) whole)
+    (c.surveyed-count.ensures ∙ ap (λ (n : ℕ). sum_to n (one args.mask.now)) (walked_whole _ _ _ whole))).0
 
 pub returns-in-Clear-clause-paper : goal.returns-in-Clear-clause-paper
--- OLD ['answer', 'paper'] let args = (c).args in
---     let whole = (accepted _ _ _ _ _ _ (clear (goal.at.returns-in-Clear c).In-Clear)).lent.of.masked in
---     let back : to_z w64 (of_z w64 c.above_black.result) ≡ c.above_black.result = search rules in
---     accepted_is _ _ _ _ _ _ (clear (goal.at.returns-in-Clear c).In-Clear) _ _
---     (back ∙ c.above_black.ensures ∙ ap (λ (n : ℕ). above_black n args.black_level (seen args.mask.now args.frame.now) (one args.mask.now)) whole)
---     (c.surveyed-count.ensures ∙ ap (λ (n : ℕ). sum_to n (one args.mask.now)) (walked_whole _ _ _ whole))
-returns-in-Clear-clause-paper c = ?
+returns-in-Clear-clause-paper c = let args = (c).args in
+    let whole = (accepted _ _ _ _ _ _ (clear (goal.at.returns-in-Clear-clause-paper c).In-Clear)).lent.of.masked in
+    let back : to_z w64 (of_z w64 c.above_black.result) ≡ c.above_black.result = search rules in
+    (accepted_is _ _ _ _ _ _ (clear (goal.at.returns-in-Clear-clause-paper c).In-Clear) _ _
+    (back ∙ c.above_black.ensures ∙ ap (λ (n : ℕ). above_black n args.black_level (seen args.mask.now args.frame.now) (one args.mask.now)) whole)
+    (c.surveyed-count.ensures ∙ ap (λ (n : ℕ). sum_to n (one args.mask.now)) (walked_whole _ _ _ whole))).1

@@ -12,45 +12,36 @@ use Rattle.pair.proofs.pair_figures.Goals.{After-refuse_if, In_default}
 
 -- past the judge, 1 to 6 refuse nothing
 module _ (c : In_default) where
-  abbrev begun : tie.Start
-  begun = c
-
-  cleared : frames_verdict begun.args.width begun.args.height begun.args.full_scale begun.args.mask.now begun.args.first.now begun.args.second.now ≡ verdict.Clear
-  cleared = sym c.judge_frames-frames.ensures ∙ c.enum_told-1.given.1
+  cleared : frames_verdict c.args.width c.args.height c.args.full_scale c.args.mask.now c.args.first.now c.args.second.now ≡ verdict.Clear
+  cleared = sym c.judge_frames-frames.ensures ∙ c.in_default.is
 
 -- and past the walk, 7 is the verdict
-seven : (c : After-refuse_if) → let a = (begun c).args in
+seven : (c : After-refuse_if) → let a = c.args in
     c.refuse_if.result ≡ pair_verdict a.width a.height a.full_scale a.mask.now a.first.now a.second.now
-seven c = c.refuse_if.ensures ∙ rest _ _ _ _ _ _ _ (cleared c) c.spread_of-s.ensures
+seven c = c.refuse_if.ensures ∙ rest _ _ _ _ _ _ _ (sym c.judge_frames-frames.ensures ∙ c.in_default.is) c.spread_of-s.ensures
 
 pub returns-in-Refused-clause-answer : goal.returns-in-Refused-clause-answer
--- OLD ['answer', 'paper'] refused_is _ _ _ _ _ _ _ (frames_refused _ _ _ _ _ _ _ (sym c.judge_frames-frames.ensures ∙ c.frames-1.given.1))
-returns-in-Refused-clause-answer c = ?
+returns-in-Refused-clause-answer c = (refused_is _ _ _ _ _ _ _ (frames_refused _ _ _ _ _ _ _ (sym c.judge_frames-frames.ensures ∙ c.in-Refused.is))).0
 
 pub returns-in-Refused-clause-paper : goal.returns-in-Refused-clause-paper
--- OLD ['answer', 'paper'] refused_is _ _ _ _ _ _ _ (frames_refused _ _ _ _ _ _ _ (sym c.judge_frames-frames.ensures ∙ c.frames-1.given.1))
-returns-in-Refused-clause-paper c = ?
+returns-in-Refused-clause-paper c = (refused_is _ _ _ _ _ _ _ (frames_refused _ _ _ _ _ _ _ (sym c.judge_frames-frames.ensures ∙ c.in-Refused.is))).1
 
 pub spread_of-s-requires : goal.spread_of-s-requires
-spread_of-s-requires c = lent _ _ _ _ _ _ (cleared c)
+spread_of-s-requires c = lent _ _ _ _ _ _ (cleared (goal.at.spread_of-s-requires c).In_default)
 
 pub figures_of-requires : goal.figures_of-requires
-figures_of-requires c = in_bounds _ _ _ _ _ _ _ (cleared c) c.spread_of-s.ensures (sym (seven (goal.at.figures_of-requires c).After-refuse_if) ∙ c.enum_told-in-Clear-1.given.1)
+figures_of-requires c = in_bounds _ _ _ _ _ _ _ (cleared (goal.at.figures_of-requires c).In_default) c.spread_of-s.ensures (sym (seven (goal.at.figures_of-requires c).After-refuse_if) ∙ c.in-Clear.is)
 
 pub returns-in-Refused-refuse_if-clause-answer : goal.returns-in-Refused-refuse_if-clause-answer
--- OLD ['answer', 'paper'] refused_is _ _ _ _ _ _ _ (sym (seven (goal.at.returns-in-Refused-refuse_if c).After-refuse_if) ∙ c.refusal-1.given.1)
-returns-in-Refused-refuse_if-clause-answer c = ?
+returns-in-Refused-refuse_if-clause-answer c = (refused_is _ _ _ _ _ _ _ (sym (seven (goal.at.returns-in-Refused-refuse_if-clause-answer c).After-refuse_if) ∙ c.in-Refused-refuse_if.is)).0
 
 pub returns-in-Refused-refuse_if-clause-paper : goal.returns-in-Refused-refuse_if-clause-paper
--- OLD ['answer', 'paper'] refused_is _ _ _ _ _ _ _ (sym (seven (goal.at.returns-in-Refused-refuse_if c).After-refuse_if) ∙ c.refusal-1.given.1)
-returns-in-Refused-refuse_if-clause-paper c = ?
+returns-in-Refused-refuse_if-clause-paper c = (refused_is _ _ _ _ _ _ _ (sym (seven (goal.at.returns-in-Refused-refuse_if-clause-paper c).After-refuse_if) ∙ c.in-Refused-refuse_if.is)).1
 
 pub returns-in-Clear-clause-answer : goal.returns-in-Clear-clause-answer
--- OLD ['answer', 'paper'] accepted_is _ _ _ _ _ _ _ (sym (seven (goal.at.returns-in-Clear c).After-refuse_if) ∙ c.enum_told-in-Clear-1.given.1)
---     (c.figures_of.ensures ∙ ap figures_of (same_spread _ _ _ _ _ _ _ (cleared c) c.spread_of-s.ensures))
-returns-in-Clear-clause-answer c = ?
+returns-in-Clear-clause-answer c = (accepted_is _ _ _ _ _ _ _ (sym (seven (goal.at.returns-in-Clear-clause-answer c).After-refuse_if) ∙ c.in-Clear.is)
+    (c.figures_of.ensures ∙ ap figures_of (same_spread _ _ _ _ _ _ _ (cleared (goal.at.returns-in-Clear-clause-answer c).In_default) c.spread_of-s.ensures))).0
 
 pub returns-in-Clear-clause-paper : goal.returns-in-Clear-clause-paper
--- OLD ['answer', 'paper'] accepted_is _ _ _ _ _ _ _ (sym (seven (goal.at.returns-in-Clear c).After-refuse_if) ∙ c.enum_told-in-Clear-1.given.1)
---     (c.figures_of.ensures ∙ ap figures_of (same_spread _ _ _ _ _ _ _ (cleared c) c.spread_of-s.ensures))
-returns-in-Clear-clause-paper c = ?
+returns-in-Clear-clause-paper c = (accepted_is _ _ _ _ _ _ _ (sym (seven (goal.at.returns-in-Clear-clause-paper c).After-refuse_if) ∙ c.in-Clear.is)
+    (c.figures_of.ensures ∙ ap figures_of (same_spread _ _ _ _ _ _ _ (cleared (goal.at.returns-in-Clear-clause-paper c).In_default) c.spread_of-s.ensures))).1

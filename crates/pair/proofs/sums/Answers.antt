@@ -26,5 +26,4 @@ loop-i-preserved c = let loop = c.loop-i in
     )
 
 pub returns-clause-value : goal.returns-clause-value
--- OLD ['value', 'n_bound'] walk_ends _ _ _ _ c.loop-i.invariant.2 (omega arith) (omega arith)
-returns-clause-value c = ?
+returns-clause-value c = (walk_ends _ _ _ _ c.loop-i.invariant.2 (omega arith) (omega arith)).0

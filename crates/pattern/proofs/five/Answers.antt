@@ -7,7 +7,7 @@ use Rattle.pattern.proofs.Figuring.{five_is}
 use Rattle.pattern.proofs.five.Goals as goal
 use Rattle.pattern.proofs.five.Goals.{Start}
 
-abbrev C : tie.Start → ℕ → ℕ
+abbrev C : Start → ℕ → ℕ
 C s = held s.args.totals.now
 
 -- each of the five leaves room
@@ -23,4 +23,4 @@ few s =
     (p a (omega arith), p (a + 1) (omega arith), p (a + 2) (omega arith), p (a + 3) (omega arith), p (a + 4) (omega arith))
 
 pub returns : goal.returns
-returns c = (five_is (C c) c.args.at, omega (arith, few c))
+returns c = let s = (goal.at.returns c).Start in (five_is (C s) c.args.at, omega (arith, few s))

@@ -15,6 +15,6 @@ returns c =
     (mask_of_lem _ _ _ _ c.judge_mask-lent.ensures (c.refuse_if-count.ensures ∙ ap (refuse_if 3 0) c.bad_count.ensures) c.length-lengths.ensures)
     (then_of c.then-stacked.ensures (c.refuse_if-unsurveyed.ensures ∙ ap (refuse_if 8 0) c.some_code_above.ensures)
     (then_of c.then.ensures
-    (c.refuse_if-small.ensures ∙ ap (λ (lines : ℕ). refuse_if 9 0 (ltb lines 12)) c.Line-of.ensures)
+    (c.refuse_if-small.ensures ∙ ap (λ (lines : ℕ). refuse_if 9 0 (ltb lines 12)) c.line_of.ensures)
     (c.refuse_if-impossible.ensures ∙ ap (refuse_if 11 0) c.some_above.ensures)))
     ∙ judged c.args.vertical _ _ _ _ c.args.mask.now c.args.sums.now _ c.most.ensures

@@ -9,10 +9,10 @@ use Rattle.pattern.specs.Walk.{with_row, Possible}
 use Rattle.pattern.proofs.Measures.{row_ready, totals_ready, totals_figures}
 use Rattle.pattern.proofs.Totals.{passed, row_more, side_le}
 use Rattle.pattern.proofs.measure.Goals as goal
-use Rattle.pattern.proofs.measure.Goals.{After-line_of, After-loop-y}
+use Rattle.pattern.proofs.measure.Goals.{After-line_of}
 
 -- after the last row
-ended : (c : After-loop-y)
+ended : (c : After-line_of)
     → c.loop-y.totals
     ≡ tabulate 128 (passed c.args.vertical c.args.width (held c.args.sums.now) c.args.height)
 ended c =
@@ -22,10 +22,10 @@ ended c =
 ready : (c : After-line_of)
     → (12 ≤ c.line_of.result)
     × (c.line_of.result ≤ 128)
-    × (c.Line-of.result * (c).args.frames * (c).args.full_scale ≤ 52416000)
+    × (c.line_of-long.result * (c).args.frames * (c).args.full_scale ≤ 52416000)
     × Possible c.line_of.result c.loop-y.totals
 ready c =
-    totals_ready _ _ _ _ _ _ c.requires.1 _ (ended c) _ _ c.line_of.ensures c.Line-of.ensures c.requires.0
+    totals_ready _ _ _ _ _ _ c.requires.1 _ (ended c) _ _ c.line_of.ensures c.line_of-long.ensures c.requires.0
 
 pub loop-y-init : goal.loop-y-init
 unfolding tabulate sum_to
@@ -41,4 +41,4 @@ pub figures_of-requires : goal.figures_of-requires
 figures_of-requires c = ready (goal.at.figures_of-requires c).After-line_of
 
 pub returns : goal.returns
-returns c = c.figures_of.ensures ∙ totals_figures _ _ _ _ _ _ c.requires.1 _ (ended (goal.at.returns c).After-loop-y) _ _ c.line_of.ensures c.Line-of.ensures c.requires.0
+returns c = c.figures_of.ensures ∙ totals_figures _ _ _ _ _ _ c.requires.1 _ (ended (goal.at.returns c).After-line_of) _ _ c.line_of.ensures c.line_of-long.ensures c.requires.0

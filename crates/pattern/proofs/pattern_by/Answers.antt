@@ -11,7 +11,7 @@ use Rattle.pattern.proofs.pattern_by.Goals.{In-Clear}
 cleared : (c : In-Clear)
     → pattern_verdict (lined c.args.vertical) c.args.width c.args.height c.args.full_scale c.args.frames c.args.mask.now c.args.sums.now
     ≡ verdict.Clear
-cleared c = sym c.judge.ensures ∙ c.enum_told-1.given.1
+cleared c = sym c.judge.ensures ∙ c.in-Clear.is
 
 passed : (c : In-Clear)
     → Clean c.args.vertical c.args.width c.args.height c.args.full_scale c.args.frames c.args.mask.now c.args.sums.now
@@ -21,17 +21,13 @@ pub measure-requires : goal.measure-requires
 measure-requires c = ((passed (goal.at.measure-requires c).In-Clear).enough, (passed (goal.at.measure-requires c).In-Clear).fair)
 
 pub returns-in-Refused-clause-answer : goal.returns-in-Refused-clause-answer
--- OLD ['answer', 'paper'] refused_is _ _ _ _ _ _ _ _ (sym c.judge.ensures ∙ c.refusal-1.given.1)
-returns-in-Refused-clause-answer c = ?
+returns-in-Refused-clause-answer c = (refused_is _ _ _ _ _ _ _ _ (sym c.judge.ensures ∙ c.in-Refused.is)).0
 
 pub returns-in-Refused-clause-paper : goal.returns-in-Refused-clause-paper
--- OLD ['answer', 'paper'] refused_is _ _ _ _ _ _ _ _ (sym c.judge.ensures ∙ c.refusal-1.given.1)
-returns-in-Refused-clause-paper c = ?
+returns-in-Refused-clause-paper c = (refused_is _ _ _ _ _ _ _ _ (sym c.judge.ensures ∙ c.in-Refused.is)).1
 
 pub returns-in-Clear-clause-answer : goal.returns-in-Clear-clause-answer
--- OLD ['answer', 'paper'] accepted_is _ _ _ _ _ _ _ _ (cleared (goal.at.returns-in-Clear c).In-Clear) (c.measure.ensures ∙ figures_seen _ _ _ _ _ _ _ (passed (goal.at.returns-in-Clear c).In-Clear))
-returns-in-Clear-clause-answer c = ?
+returns-in-Clear-clause-answer c = (accepted_is _ _ _ _ _ _ _ _ (cleared (goal.at.returns-in-Clear-clause-answer c).In-Clear) (c.measure.ensures ∙ figures_seen _ _ _ _ _ _ _ (passed (goal.at.returns-in-Clear-clause-answer c).In-Clear))).0
 
 pub returns-in-Clear-clause-paper : goal.returns-in-Clear-clause-paper
--- OLD ['answer', 'paper'] accepted_is _ _ _ _ _ _ _ _ (cleared (goal.at.returns-in-Clear c).In-Clear) (c.measure.ensures ∙ figures_seen _ _ _ _ _ _ _ (passed (goal.at.returns-in-Clear c).In-Clear))
-returns-in-Clear-clause-paper c = ?
+returns-in-Clear-clause-paper c = (accepted_is _ _ _ _ _ _ _ _ (cleared (goal.at.returns-in-Clear-clause-paper c).In-Clear) (c.measure.ensures ∙ figures_seen _ _ _ _ _ _ _ (passed (goal.at.returns-in-Clear-clause-paper c).In-Clear))).1

@@ -5,28 +5,25 @@ use Rattle.raw.proofs.Unpacks.{accepted, refused_is, accepted_is}
 use Rattle.raw.proofs.unpack_raw10.Goals as goal
 
 pub fill-requires : goal.fill-requires
-fill-requires c = (accepted _ _ _ _ (sym c.judge.ensures ∙ c.enum_told-1.given.1)).groups
+fill-requires c = (accepted _ _ _ _ (sym c.judge.ensures ∙ c.in-Clear.is)).groups
 
 pub returns-in-Refused-clause-answer : goal.returns-in-Refused-clause-answer
--- OLD ['answer', 'paper', 'buffer'] refused_is _ _ _ _ _ (sym c.judge.ensures ∙ c.refusal-1.given.1)
-returns-in-Refused-clause-answer c = ?
+returns-in-Refused-clause-answer c = (refused_is _ _ _ _ _ (sym c.judge.ensures ∙ c.in-Refused.is)).0
 
 pub returns-in-Refused-clause-paper : goal.returns-in-Refused-clause-paper
--- OLD ['answer', 'paper', 'buffer'] refused_is _ _ _ _ _ (sym c.judge.ensures ∙ c.refusal-1.given.1)
-returns-in-Refused-clause-paper c = ?
+returns-in-Refused-clause-paper c = (refused_is _ _ _ _ _ (sym c.judge.ensures ∙ c.in-Refused.is)).1.0
 
 pub returns-in-Refused-clause-buffer : goal.returns-in-Refused-clause-buffer
--- OLD ['answer', 'paper', 'buffer'] refused_is _ _ _ _ _ (sym c.judge.ensures ∙ c.refusal-1.given.1)
-returns-in-Refused-clause-buffer c = ?
+returns-in-Refused-clause-buffer c = (refused_is _ _ _ _ _ (sym c.judge.ensures ∙ c.in-Refused.is)).1.1
 
 pub returns-in-Clear-clause-answer : goal.returns-in-Clear-clause-answer
-returns-in-Clear-clause-answer c = let done = accepted_is _ _ _ _ (sym c.judge.ensures ∙ c.enum_told-1.given.1) in
+returns-in-Clear-clause-answer c = let done = accepted_is _ _ _ _ (sym c.judge.ensures ∙ c.in-Clear.is) in
     done.0
 
 pub returns-in-Clear-clause-paper : goal.returns-in-Clear-clause-paper
-returns-in-Clear-clause-paper c = let done = accepted_is _ _ _ _ (sym c.judge.ensures ∙ c.enum_told-1.given.1) in
+returns-in-Clear-clause-paper c = let done = accepted_is _ _ _ _ (sym c.judge.ensures ∙ c.in-Clear.is) in
     done.1.0
 
 pub returns-in-Clear-clause-buffer : goal.returns-in-Clear-clause-buffer
-returns-in-Clear-clause-buffer c = let done = accepted_is _ _ _ _ (sym c.judge.ensures ∙ c.enum_told-1.given.1) in
+returns-in-Clear-clause-buffer c = let done = accepted_is _ _ _ _ (sym c.judge.ensures ∙ c.in-Clear.is) in
     c.fill.ensures ∙ done.1.1

@@ -8,17 +8,14 @@ use Rattle.stack.specs.State.{stack_of, impossible_in}
 use Rattle.stack.proofs.Sites.{Readable, readable_is}
 use Rattle.stack.proofs.Turns.{asked_none, asked_more}
 use Rattle.stack.proofs.some_impossible.Goals as goal
-use Rattle.stack.proofs.some_impossible.Goals.{In-loop-i, Start}
+use Rattle.stack.proofs.some_impossible.Goals.{Start}
 
-abbrev Lent : tie.Start invariant-loop decreases-loop → Type 0
+abbrev Lent : Start → Type 0
 Lent c =
     Readable (length c.args.mask.now) c.args.full_scale (length c.args.sums.now) (length c.args.squares.now) (length c.args.least.now) (length c.args.greatest.now)
 
 lent : (c : Start) → Lent c
 lent c = readable_is _ _ _ _ _ _ c.requires.1
-
-legal : (c : In-loop-i) → Lent c
-legal c = lent c
 
 scale-squared : (c : Start) → c.args.full_scale * c.args.full_scale ≤ 4095 * 4095
 scale-squared c = times_le c.args.full_scale c.args.full_scale 4095 4095 (lent c).scale (lent c).scale
@@ -42,22 +39,22 @@ pub loop-i-init : goal.loop-i-init
 loop-i-init c = (omega arith, refl, asked_none _ _ _)
 
 pub bounds-sums-i : goal.bounds-sums-i
-bounds-sums-i c = omega (arith, (legal (goal.at.bounds-sums-i c).In-loop-i).sums-long)
+bounds-sums-i c = omega (arith, (lent (goal.at.bounds-sums-i c).Start).sums-long)
 
 pub bounds-squares-i : goal.bounds-squares-i
-bounds-squares-i c = omega (arith, (legal (goal.at.bounds-squares-i c).In-loop-i).squares-long)
+bounds-squares-i c = omega (arith, (lent (goal.at.bounds-squares-i c).Start).squares-long)
 
 pub bounds-least-i : goal.bounds-least-i
-bounds-least-i c = omega (arith, (legal (goal.at.bounds-least-i c).In-loop-i).least-long)
+bounds-least-i c = omega (arith, (lent (goal.at.bounds-least-i c).Start).least-long)
 
 pub bounds-greatest-i : goal.bounds-greatest-i
-bounds-greatest-i c = omega (arith, (legal (goal.at.bounds-greatest-i c).In-loop-i).greatest-long)
+bounds-greatest-i c = omega (arith, (lent (goal.at.bounds-greatest-i c).Start).greatest-long)
 
 pub loop-i-preserved : goal.loop-i-preserved
 loop-i-preserved c = (omega arith, refl, asked_more _ _ _ _ _ _ _ _ c.or_one-k_or_one.ensures c.top-most.ensures c.loop-i.invariant.2 c.beyond-bad.ensures)
 
 pub offset_bounds-sums-i : goal.offset_bounds-sums-i
-offset_bounds-sums-i c = ?
+offset_bounds-sums-i c = omega (arith, (lent (goal.at.offset_bounds-sums-i c).Start).sums-long)
 
 pub offset_bounds-squares-i : goal.offset_bounds-squares-i
-offset_bounds-squares-i c = ?
+offset_bounds-squares-i c = omega (arith, (lent (goal.at.offset_bounds-squares-i c).Start).squares-long)

@@ -1,0 +1,38 @@
+use Prim.Native.Nat.{ℕ, ◌+◌, ◌-◌, ◌*◌, ◌<◌, ◌≤◌}
+use mathlib.Core.Path.{◌≡◌, ap, ◌∙◌}
+use native.Mathlib.Omega.{arith}
+use lib.ListN.{length, set, length-set}
+use borrow.Author.Rules.{rules}
+use Rattle.laws.specs.Table.{held}
+use Rattle.laws.proofs.Tables.{Storing, storing_none, storing_more}
+use Rattle.sites.specs.Walk.{strip, along_to}
+use Rattle.sites.proofs.Totals.{along_more, along_most, along_read, begun}
+use Rattle.sites.proofs.run.Goals as goal
+use Rattle.sites.proofs.run.Goals.{At-loop-x}
+
+-- what is held after so many turns, and that it is no more than a window holds
+module _ (c : At-loop-x) where
+  abbrev step : ℕ → ℕ
+  step = strip c.args.above.now c.args.below.now c.args.start
+
+  long : length c.loop-x.along ≡ 130
+  long = c.loop-x.invariant.1.long ∙ length-set (set c.args.along.now 0 0) 1 0 ∙ length-set c.args.along.now 0 0 ∙ c.requires.3
+
+  total : (j : ℕ) → j < c.loop-x.x + 2 → held c.loop-x.along j ≡ along_to step j
+  total = along_read step c.loop-x.invariant.1 (begun c.args.along.now)
+
+  few : (k : ℕ) → k < c.args.width → step k ≤ 64 * 65535
+  few k inside = omega (arith, (c.requires.2.within (c.args.start + k) (omega arith)).1)
+
+pub overflow_add-along-in-loop-x-2 : goal.overflow_add-along-in-loop-x-2
+overflow_add-along-in-loop-x-2 c = let x = c.loop-x.x in
+    omega (arith, total c x (omega arith), along_most (step c) (64 * 65535) x (λ k low. few c k (omega arith)), few c x (omega arith))
+
+pub loop-x-preserved : goal.loop-x-preserved
+loop-x-preserved c = let x = c.loop-x.x in (
+      omega arith,
+      storing_more _ c.loop-x.invariant.1 (omega (arith, long c)) (ap (λ (k : ℕ). k + step c x) (total c x (omega arith)) ∙ along_more (step c) x),
+    )
+
+pub returns : goal.returns
+returns c = record { long = long c; told = λ j low. total c j (omega arith) }
