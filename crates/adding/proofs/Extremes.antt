@@ -46,6 +46,7 @@ module _ {choose : ℕ → ℕ → ℕ} {Before : ℕ → ℕ → Type 0} (c : C
     where
       only : (o : List ℕ) → OneOf o (f ∷ []) → Before (g f) (g o)
       only o newest = c.self (g f)
+      only o (older x3) = elim x3 [ ]
   extreme_is g f (next ∷ fs) =
       let x = extreme_over choose (next ∷ fs) g in
       let rest = extreme_is g next fs in

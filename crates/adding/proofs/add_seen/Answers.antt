@@ -25,13 +25,13 @@ pub loop-i-init : goal.loop-i-init
 loop-i-init c = (omega arith, filling_none _ _, filling_none _ _)
 
 pub overflow_add-sums : goal.overflow_add-sums
-overflow_add-sums c = omega (arith, has_room _ c.loop-i.inv.1 (seen_here (goal.at.overflow_add-sums c).After-seen_at-sample) (c.requires.3 c.loop-i.i (omega arith)))
+overflow_add-sums c = omega (arith, has_room _ c.loop-i.invariant.1 (seen_here (goal.at.overflow_add-sums c).After-seen_at-sample) (c.requires.3 c.loop-i.i (omega arith)))
 
 pub overflow_add-squares : goal.overflow_add-squares
-overflow_add-squares c = omega (arith, has_room _ c.loop-i.inv.2 (squared-here (goal.at.overflow_add-squares c).After-seen_at-sample) (c.requires.4 c.loop-i.i (omega arith)))
+overflow_add-squares c = omega (arith, has_room _ c.loop-i.invariant.2 (squared-here (goal.at.overflow_add-squares c).After-seen_at-sample) (c.requires.4 c.loop-i.i (omega arith)))
 
 pub loop-i-preserved : goal.loop-i-preserved
-loop-i-preserved c = (omega arith, one_added _ c.loop-i.inv.1 (seen_here (goal.at.loop-i-preserved c).After-seen_at-sample) (omega arith), one_added _ c.loop-i.inv.2 (squared-here (goal.at.loop-i-preserved c).After-seen_at-sample) (omega arith))
+loop-i-preserved c = (omega arith, one_added _ c.loop-i.invariant.1 (seen_here (goal.at.loop-i-preserved c).After-seen_at-sample) (omega arith), one_added _ c.loop-i.invariant.2 (squared-here (goal.at.loop-i-preserved c).After-seen_at-sample) (omega arith))
 
 pub returns-clause-sums : goal.returns-clause-sums
 unfolding renewed

@@ -1,0 +1,41 @@
+use Prim.Native.Nat.{ℕ, ◌+◌, ◌-◌, ◌*◌, ◌≤◌}
+use mathlib.Core.Path.{◌≡◌, ap, ◌∙◌}
+use native.Mathlib.Omega.{arith}
+use lib.ListN.{length}
+use borrow.Author.Rules.{rules}
+use Rattle.window.specs.View.{seen, one}
+use Rattle.window.proofs.Sides.{sides}
+use Rattle.plane.specs.declared.Pair.{Pair}
+use Rattle.blocks.specs.Areas.{entries_of}
+use Rattle.blocks.specs.Table.{entry_sum}
+use Rattle.blocks.proofs.Stores.{Stored, stored_none, stored_more, stored_done}
+use Rattle.blocks.proofs.Told.{entry_summed}
+use Rattle.blocks.proofs.sum_areas.Goals as goal
+
+pub loop-k-preserved : goal.loop-k-preserved
+loop-k-preserved c = let turn = Turn c in
+    let start = Begun turn in
+    let i = turn.loop-k.invariant in
+    let last = turn.loop-k-test.taken in
+    let upper = c.pair_sums-upper.ensures in
+    let lower = c.pair_sums-lower.ensures in
+    let told = entry_summed _ _ _ _ _ _ _ (sides _ _ start.requires.0) start.requires.1 start.requires.2
+    (ap (λ (n : ℕ). n + 1) turn.blocks-areas.ensures.0) last c.area-within.ensures in
+    let first = told 0 _ (ap (λ (p : Pair). p.even) upper) in
+    let second = told 1 _ (ap (λ (p : Pair). p.odd) upper) in
+    let third = told 2 _ (ap (λ (p : Pair). p.even) lower) in
+    let fourth = told 3 _ (ap (λ (p : Pair). p.odd) lower) in (
+      omega arith,
+      i.1,
+      i.2,
+      rw c.store.ensures (stored_more _ _ _ _ i.3 last i.1 first.0 second.0 third.0 fourth.0),
+      rw c.store-in-loop-k.ensures (stored_more _ _ _ _ i.4 last i.2 first.1 second.1 third.1 fourth.1),
+    )
+
+pub returns-clause-totals_after : goal.returns-clause-totals_after
+returns-clause-totals_after c = let all : entries_of c.args.width c.args.height ≡ 4 * (c.blocks-areas.result + 1) = omega (arith, c.blocks-areas.ensures.0) in
+    stored_done _ c.loop-k.invariant.3 (omega arith) (omega arith) c.requires.3 all
+
+pub returns-clause-counts_after : goal.returns-clause-counts_after
+returns-clause-counts_after c = let all : entries_of c.args.width c.args.height ≡ 4 * (c.blocks-areas.result + 1) = omega (arith, c.blocks-areas.ensures.0) in
+    stored_done _ c.loop-k.invariant.4 (omega arith) (omega arith) c.requires.4 all
