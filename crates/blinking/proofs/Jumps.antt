@@ -1,5 +1,5 @@
 -- A site jumps exactly where its greatest sample of a run exceeds its least by the spread, since no two frames differ more than the two that have these.
-use Prim.Native.Nat.{ℕ, suc, ◌-◌, ◌≤◌}
+use Prim.Native.Nat.{ℕ, zero, suc, ◌-◌, ◌≤◌}
 use mathlib.Core.Bool.{Bool, true, false, ◌||◌, ◌&&◌}
 use mathlib.Core.List.{List, [], ◌∷◌}
 use mathlib.Core.Path.{◌≡◌, refl, ap₂}
@@ -22,6 +22,7 @@ module _ (test : List ℕ → Bool) where
   unfolding some_frame
   each_fails (f ∷ fs) newest e = (neither (some_frame fs test) (test f) e).1
   each_fails (g ∷ fs) (older o) e = each_fails fs o (neither (some_frame fs test) (test g) e).0
+  each_fails {f = f} [] x'' e = elim x'' [ ]
 
   -- and where each fails it, none passes
   none_passes : (fs : List (List ℕ)) → ((f : List ℕ) → OneOf f fs → test f ≡ false) → some_frame fs test ≡ false
@@ -33,6 +34,7 @@ module _ (test : List ℕ → Bool) where
 of_repeated : (k : ℕ) {f frame : List ℕ} → OneOf f (replicate k frame) → f ≡ frame
 of_repeated (suc k) newest = refl
 of_repeated (suc k) (older o) = of_repeated k o
+of_repeated zero {f = f} {frame = frame} x' = elim x' [ ]
 
 module _ (spread i : ℕ) where
   -- two frames differ by at least the spread

@@ -13,14 +13,12 @@ use Rattle.blocks.proofs.Told.{entry_summed}
 use Rattle.blocks.proofs.sum_areas.Goals as goal
 
 pub loop-k-preserved : goal.loop-k-preserved
-loop-k-preserved c = let turn = Turn c in
-    let start = Begun turn in
-    let i = turn.loop-k.invariant in
-    let last = turn.loop-k-test.taken in
+loop-k-preserved c = let i = c.loop-k.invariant in
+    let last = c.loop-k-test.true in
     let upper = c.pair_sums-upper.ensures in
     let lower = c.pair_sums-lower.ensures in
-    let told = entry_summed _ _ _ _ _ _ _ (sides _ _ start.requires.0) start.requires.1 start.requires.2
-    (ap (λ (n : ℕ). n + 1) turn.blocks-areas.ensures.0) last c.area-within.ensures in
+    let told = entry_summed _ _ _ _ _ _ _ (sides _ _ c.requires.0) c.requires.1 c.requires.2
+    (ap (λ (n : ℕ). n + 1) c.blocks-areas.ensures.0) last c.area-within.ensures in
     let first = told 0 _ (ap (λ (p : Pair). p.even) upper) in
     let second = told 1 _ (ap (λ (p : Pair). p.odd) upper) in
     let third = told 2 _ (ap (λ (p : Pair). p.even) lower) in
