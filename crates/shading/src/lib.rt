@@ -21,7 +21,7 @@ pub enum Judged {
 }
 
 // The numbers that are handed in with a table.
-#[derive(Drop)]
+#[derive(Clone, Copy)]
 struct Asked {
     width: usize,
     height: usize,
@@ -32,7 +32,7 @@ struct Asked {
 }
 
 // The lengths of the four buffers that are written.
-#[derive(Drop)]
+#[derive(Clone, Copy)]
 struct Lengths {
     numerators: usize,
     denominators: usize,
@@ -41,14 +41,14 @@ struct Lengths {
 }
 
 // The two planes of a ratio.
-#[derive(Drop)]
+#[derive(Clone, Copy)]
 struct Planes {
     colour: usize,
     green: usize,
 }
 
 // What is seen of them in one area.
-#[derive(Drop)]
+#[derive(Clone, Copy)]
 struct Tint {
     colour: Sums,
     green: Sums,

@@ -1,0 +1,25 @@
+-- `judge_ratio` is right because each turn stores the shade of one block more, beside the centre of the same two planes.
+use Prim.Native.Nat.{ℕ, ◌+◌, ◌-◌, ◌*◌, ◌≤◌, ◌<◌}
+use mathlib.Core.Path.{◌≡◌, refl, ap}
+use native.Mathlib.Omega.{arith}
+use lib.Arith.{digits_lt}
+use borrow.Author.Rules.{rules}
+use Rattle.laws.proofs.Cases.{times_le}
+use Rattle.laws.proofs.Tables.{Storing, storing_none, storing_more}
+use Rattle.blocks.specs.Areas.{blocks_of}
+use Rattle.blocks.proofs.Areas.{block_sites, centre_sites}
+use Rattle.shading.specs.Judge.{shade_in}
+use Rattle.shading.specs.declared.Shade.{Shade}
+use Rattle.shading.proofs.Entries.{in_four}
+use Rattle.shading.proofs.Walks.{half_stored}
+use Rattle.shading.proofs.judge_ratio.Given as goal
+
+abbrev pub invariant-loop-k : goal.invariant-loop-k
+invariant-loop-k l = (l.k ≤ l.blocks) × (l.first ≡ l.ratio * l.blocks)
+    × Storing (λ (i : ℕ). (shade_in l.asked l.totals l.counts l.ratio i).numerator) l.initial.numerators l.numerators l.first l.k
+    × Storing (λ (i : ℕ). (shade_in l.asked l.totals l.counts l.ratio i).denominator) l.initial.denominators l.denominators l.first l.k
+    × Storing (λ (i : ℕ). (shade_in l.asked l.totals l.counts l.ratio i).number) l.initial.refusals l.refusals l.first l.k
+    × Storing (λ (i : ℕ). (shade_in l.asked l.totals l.counts l.ratio i).fail) l.initial.fails l.fails l.first l.k
+
+abbrev pub decreases-loop-k : goal.decreases-loop-k
+decreases-loop-k l = l.blocks - l.k
