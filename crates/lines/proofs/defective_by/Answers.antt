@@ -15,7 +15,7 @@ clear : (c : In-Clear)
 clear c = sym c.judge.ensures ∙ c.in-Clear.is
 
 pub mark-requires : goal.mark-requires
-mark-requires c = ready (c).args.vertical _ _ _ _ _ _ _ (clear (goal.at.mark-requires c).In-Clear) c.lines_of-lines.ensures
+mark-requires c = ready c.args.vertical _ _ _ _ _ _ _ (clear (goal.at.mark-requires c).In-Clear) c.lines_of-lines.ensures
 
 pub returns-in-Refused-clause-answer : goal.returns-in-Refused-clause-answer
 returns-in-Refused-clause-answer c = (refused_is _ _ _ _ _ _ _ _ (sym c.judge.ensures ∙ c.in-Refused.is)).0

@@ -9,102 +9,77 @@ use Rattle.sites.specs.Walk.{Totals}
 use Rattle.sites.proofs.Totals.{totals_none, both_nested}
 use Rattle.sites.proofs.Marks.{Marked, marked_none, marked_all, marked_row, pairs_in, row_in}
 use Rattle.sites.proofs.mark.Goals as goal
-use Rattle.sites.proofs.mark.Goals.{After-add_pairs-in-loop-y, After-end_near-end, After-slice_known-in-loop-y-1, At-loop-y, Start}
+use Rattle.sites.proofs.mark.Goals.{At-loop-y}
 
--- where the walk began, and what holds of its arguments
+-- what holds of the arguments
 module _ (c : At-loop-y) where
-  abbrev Begun : Start
-  Begun = c
+  legal : Sides c.args.width c.args.height
+  legal = sides _ _ c.requires.height_value.0
 
-  legal : Sides Begun.args.width Begun.args.height
-  legal = sides _ _ Begun.pre.0.0
-
-  small : (i : ℕ) → held Begun.args.frame.now i ≤ 65535
+  small : (i : ℕ) → held c.args.frame.now i ≤ 65535
   small i = omega (arith, c.shared_slice_known-2-1.given i)
-
--- the row's turn, with the first pair of rows that its boxes have and the end of these
-module _ (c : After-end_near-end) where
-  abbrev turn : At-loop-y
-  turn = c
-
-  first : c.first_near-first.result ≡ turn.loop-y.y / 2 - 15
-  first = c.first_near-first.ensures
-
-  end : c.end_near-end.result ≡ min (turn.loop-y.y / 2 + 15 + 1) ((Begun turn).args.height / 2)
-  end = c.end_near-end.ensures
-
--- where that is known, after the totals are brought down
-module _ (c : After-add_pairs-in-loop-y) where
-  abbrev ends : After-end_near-end
-  ends = c
-
--- and after the row is marked
-module _ (c : After-slice_known-in-loop-y-1) where
-  abbrev added : After-add_pairs-in-loop-y
-  added = c
-
-  abbrev at : At-loop-y
-  at = turn (ends added)
 
 pub loop-y-init : goal.loop-y-init
 loop-y-init c = let none = totals_none _ _ _ (sides _ _ c.requires.height_value.0).wide.high in
     (omega arith, omega arith, omega arith, none, none, length-replicate {A = ℕ} 130 0, length-replicate {A = ℕ} 130 0, refl, marked_none _ _ _ _ _ _)
 
 pub end_near-end-requires : goal.end_near-end-requires
-end_near-end-requires c = omega (arith, (legal c).high.high)
+end_near-end-requires c = omega (arith, (legal (goal.at.end_near-end-requires c).At-loop-y).high.high)
 
 pub add_pairs-requires-clause-width_bound : goal.add_pairs-requires-clause-width_bound
-add_pairs-requires-clause-width_bound c = let p = (Begun (turn c)).pre.1 in
-    pairs_in _ _ _ (legal (turn c)) p.0 _ _ _ p.1 (omega (arith, first c)) (omega (arith, first c))
+add_pairs-requires-clause-width_bound c = let p = c.requires.mask_len in
+    let first = c.first_near-first.ensures in
+    pairs_in _ _ _ (legal (goal.at.add_pairs-requires-clause-width_bound c).At-loop-y) p.0 _ _ _ p.1 (omega (arith, first)) (omega (arith, first))
 
 pub add_pairs-requires-in-loop-y-clause-width_bound : goal.add_pairs-requires-in-loop-y-clause-width_bound
-add_pairs-requires-in-loop-y-clause-width_bound c = let p = (Begun (turn c)).pre.1 in
-    pairs_in _ _ _ (legal (turn c)) p.0 _ _ _ p.1 (omega (arith, end c)) (omega (arith, end c))
+add_pairs-requires-in-loop-y-clause-width_bound c = let p = c.requires.mask_len in
+    let end = c.end_near-end.ensures in
+    pairs_in _ _ _ (legal (goal.at.add_pairs-requires-in-loop-y-clause-width_bound c).At-loop-y) p.0 _ _ _ p.1 (omega (arith, end)) (omega (arith, end))
 
 pub mark_row-found-requires-clause-row_in : goal.mark_row-found-requires-clause-row_in
-mark_row-found-requires-clause-row_in c = let e = ends c in
-    let l = legal (turn e) in
-    let p = (Begun (turn e)).pre in
-    let i = (turn e).loop.inv in
-    let nested = both_nested _ _ _ _ _ _ _ _ _ (omega (arith, first e, end e)) (omega (arith, end e, l.high.high)) (small (turn e)) c.add_pairs.ensures c.add_pairs-in-loop-y.ensures in record {
-        wide = l.wide.high;
-        even = l.wide.even;
-        high = omega (arith, l.high.high);
-        few = p.0.1;
-        inside = row_in _ _ _ l (i.7 ∙ p.1.2) _ (omega arith);
-        masked = omega arith;
-        framed = omega arith;
-      }
+mark_row-found-requires-clause-row_in c = let l = legal (goal.at.mark_row-found-requires-clause-row_in c).At-loop-y in
+    let p = c.requires in
+    record {
+      wide = l.wide.high;
+      even = l.wide.even;
+      high = omega (arith, l.high.high);
+      few = p.height_value.1;
+      inside = row_in _ _ _ l (c.loop-y.invariant.7 ∙ p.mask_len.2) _ (omega arith);
+      masked = omega arith;
+      framed = omega arith;
+    }
 
 pub mark_row-found-requires-clause-nested : goal.mark_row-found-requires-clause-nested
-mark_row-found-requires-clause-nested c = let e = ends c in
-    let l = legal (turn e) in
-    let p = (Begun (turn e)).pre in
-    let i = (turn e).loop.inv in
-    let nested = both_nested _ _ _ _ _ _ _ _ _ (omega (arith, first e, end e)) (omega (arith, end e, l.high.high)) (small (turn e)) c.add_pairs.ensures c.add_pairs-in-loop-y.ensures in (nested.0, nested.1, i.5, i.6)
+mark_row-found-requires-clause-nested c = let t = (goal.at.mark_row-found-requires-clause-nested c).At-loop-y in
+    let first = c.first_near-first.ensures in
+    let end = c.end_near-end.ensures in
+    let i = c.loop-y.invariant in
+    let nested = both_nested _ _ _ _ _ _ _ _ _ (omega (arith, first, end)) (omega (arith, end, (legal t).high.high)) (small t) c.add_pairs.ensures c.add_pairs-in-loop-y.ensures in (nested.0, nested.1, i.5, i.6)
 
 pub overflow_add-found : goal.overflow_add-found
-overflow_add-found c = omega (arith, (at c).loop.invariant.8.few, c.mark_row-found.ensures.row_marked.few, (legal (at c)).few, row_in _ _ _ (legal (at c)) refl (at c).loop.y (omega arith), (legal (at c)).sites)
+overflow_add-found c = let l = legal (goal.at.overflow_add-found c).At-loop-y in
+    omega (arith, c.loop-y.invariant.8.few, c.mark_row-found.ensures.row_marked.few, l.few, row_in _ _ _ l refl c.loop-y.y (omega arith), l.sites)
 
 pub loop-y-preserved : goal.loop-y-preserved
 loop-y-preserved c = let row = c.mark_row-found.ensures.row_marked in
     let room = c.mark_row-found.ensures.counts_len in
-    let e = ends (added c) in
-    let above = (added c).before.before.before.add_pairs.ensures in
-    let below = (added c).add-pairs2.ensures in (
+    let first = c.first_near-first.ensures in
+    let end = c.end_near-end.ensures in
+    let above = c.add_pairs.ensures in
+    let below = c.add_pairs-in-loop-y.ensures in (
       omega arith,
-      omega (arith, first e),
-      omega (arith, end e),
+      omega (arith, first),
+      omega (arith, end),
       above,
       below,
       room.0,
       room.1,
-      row.long ∙ (at c).loop.invariant.7,
-      marked_row _ _ _ _ _ _ _ _ _ _ _ _ (omega arith) (first e) (end e) above below _ _ _ _ (at c).loop.invariant.8 row,
+      row.long ∙ c.loop-y.invariant.7,
+      marked_row _ _ _ _ _ _ _ _ _ _ _ _ (omega arith) first end above below _ _ _ _ c.loop-y.invariant.8 row,
     )
 
 pub returns-clause-value : goal.returns-clause-value
-returns-clause-value c = (marked_all _ _ _ _ _ _ _ _ (omega arith) (legal c) (c.loop-y.invariant.7 ∙ (Begun c).requires.1.2) c.loop-y.invariant.8).0
+returns-clause-value c = (marked_all _ _ _ _ _ _ _ _ (omega arith) (legal (goal.at.returns-clause-value c).At-loop-y) (c.loop-y.invariant.7 ∙ c.requires.mask_len.2) c.loop-y.invariant.8).0
 
 pub returns-clause-out_after : goal.returns-clause-out_after
-returns-clause-out_after c = (marked_all _ _ _ _ _ _ _ _ (omega arith) (legal c) (c.loop-y.invariant.7 ∙ (Begun c).requires.1.2) c.loop-y.invariant.8).1
+returns-clause-out_after c = (marked_all _ _ _ _ _ _ _ _ (omega arith) (legal (goal.at.returns-clause-out_after c).At-loop-y) (c.loop-y.invariant.7 ∙ c.requires.mask_len.2) c.loop-y.invariant.8).1

@@ -25,7 +25,7 @@ unfolding marked_along
 loop-x-preserved c = let l = c.loop-x in
     let f = found (goal.at.loop-x-preserved c).After-code_of in (
       omega arith,
-      storing_more _ l.invariant.1 (omega (arith, l.invariant.1.long)) (c.code_of_lem.ensures ∙ ap (marked _) f),
+      storing_more _ l.invariant.1 (omega (arith, l.invariant.1.long)) (c.code_of.ensures ∙ ap (marked _) f),
       ap₂ (λ (x y : ℕ). x + y) l.invariant.2 f ∙ sum_more l.x _,
       omega (arith, c.found_by-f.ensures.1),
     )

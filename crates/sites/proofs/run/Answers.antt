@@ -25,14 +25,16 @@ module _ (c : At-loop-x) where
   few k inside = omega (arith, (c.requires.2.within (c.args.start + k) (omega arith)).1)
 
 pub overflow_add-along-in-loop-x-2 : goal.overflow_add-along-in-loop-x-2
-overflow_add-along-in-loop-x-2 c = let x = c.loop-x.x in
-    omega (arith, total c x (omega arith), along_most (step c) (64 * 65535) x (λ k low. few c k (omega arith)), few c x (omega arith))
+overflow_add-along-in-loop-x-2 c = let t = (goal.at.overflow_add-along-in-loop-x-2 c).At-loop-x in
+    let x = c.loop-x.x in
+    omega (arith, total t x (omega arith), along_most (step t) (64 * 65535) x (λ k low. few t k (omega arith)), few t x (omega arith))
 
 pub loop-x-preserved : goal.loop-x-preserved
-loop-x-preserved c = let x = c.loop-x.x in (
+loop-x-preserved c = let t = (goal.at.loop-x-preserved c).At-loop-x in
+    let x = c.loop-x.x in (
       omega arith,
-      storing_more _ c.loop-x.invariant.1 (omega (arith, long c)) (ap (λ (k : ℕ). k + step c x) (total c x (omega arith)) ∙ along_more (step c) x),
+      storing_more _ c.loop-x.invariant.1 (omega (arith, long t)) (ap (λ (k : ℕ). k + step t x) (total t x (omega arith)) ∙ along_more (step t) x),
     )
 
 pub returns : goal.returns
-returns c = record { long = long c; told = λ j low. total c j (omega arith) }
+returns c = let t = (goal.at.returns c).At-loop-x in record { long = long t; told = λ j low. total t j (omega arith) }
