@@ -129,12 +129,12 @@ pub record Demand1 : Type 0 where
       → let paper = find_paper w h full t mask frame (length out) in
       RefusingOver (find_verdict w h full t mask frame (length out)) (find_tests w h full t mask frame (length out)) paper (over_full w h full (seen mask frame))
       ((paper.figures ≡ 0) × (find_mask w h full t mask frame out ≡ out))
-  pub repair : (w h full : ℕ) (mask frame out_frame_lem out_mask_lem : List ℕ)
-      → let paper = repair_paper w h full mask frame (length out_frame_lem) (length out_mask_lem) in
-      RefusingOver (repair_verdict w h full mask frame (length out_frame_lem) (length out_mask_lem)) (repair_tests w h full mask frame (length out_frame_lem) (length out_mask_lem)) paper (over_full w h full (seen mask frame))
+  pub repair : (w h full : ℕ) (mask frame out_frame out_mask : List ℕ)
+      → let paper = repair_paper w h full mask frame (length out_frame) (length out_mask) in
+      RefusingOver (repair_verdict w h full mask frame (length out_frame) (length out_mask)) (repair_tests w h full mask frame (length out_frame) (length out_mask)) paper (over_full w h full (seen mask frame))
       ((paper.figures ≡ 0)
-      × (repair_frame w h full mask frame out_frame_lem (length out_mask_lem) ≡ out_frame_lem)
-      × (repair_mask w h full mask frame (length out_frame_lem) out_mask_lem ≡ out_mask_lem))
+      × (repair_frame w h full mask frame out_frame (length out_mask) ≡ out_frame)
+      × (repair_mask w h full mask frame (length out_frame) out_mask ≡ out_mask))
   -- of rows and of columns
   pub defective_lines : (lines : ℕ → ℕ → plane-lines.Lines) (w h full : ℕ) (mask frame marks : List ℕ)
       → let paper = lines_paper lines w h full mask frame (length marks) in
@@ -186,7 +186,7 @@ demand_1 = record {
   blinking_sites = λ w h full spread mask s. record { given = blinking.given w h full spread mask s; told = (refl, refl, never_over _ (blinking.given w h full spread mask s) refl refl); refused = blinking.refused w h full spread mask s };
   pattern_noise = λ lines w h full k mask sums. record { given = pattern.given lines w h full k mask sums; told = (refl, refl, never_over _ (pattern.given lines w h full k mask sums) refl refl); refused = pattern.refused lines w h full k mask sums };
   find_defects = λ w h full t mask frame out. record { given = finding.given w h full t mask frame out; told = (refl, refl, refl); refused = finding.refused w h full t mask frame out };
-  repair = λ w h full mask frame out_frame_lem out_mask_lem. record { given = repairing.given w h full mask frame out_frame_lem out_mask_lem; told = (refl, refl, refl); refused = repairing.refused w h full mask frame out_frame_lem out_mask_lem };
+  repair = λ w h full mask frame out_frame out_mask. record { given = repairing.given w h full mask frame out_frame out_mask; told = (refl, refl, refl); refused = repairing.refused w h full mask frame out_frame out_mask };
   defective_lines = λ lines w h full mask frame marks. record { given = marking.given lines w h full mask frame marks; told = (refl, refl, refl); refused = marking.refused lines w h full mask frame marks };
   colour_ratios = λ w h full black order mask frame. record { given = colour.given w h full black order mask frame; told = (refl, refl, refl); refused = colour.refused w h full black order mask frame };
   photon_transfer = λ c first last. record { given = gain.given c first last; told = (refl, refl, never_over _ (gain.given c first last) refl refl); refused = gain.refused c first last };
@@ -218,9 +218,9 @@ pub record Numbers : Type 0 where
       → patterns.paper_of (patterns.pattern_answer lines w h full k mask sums) ≡ pattern_paper lines w h full k mask sums
   pub find_defects : (w h full t : ℕ) (mask frame out : List ℕ)
       → searches.find_paper_of (searches.find_answer w h full t mask frame (length out)) ≡ find_paper w h full t mask frame (length out)
-  pub repair : (w h full : ℕ) (mask frame out_frame_lem out_mask_lem : List ℕ)
-      → repairs.repair_paper_of (repairs.repair_answer w h full mask frame (length out_frame_lem) (length out_mask_lem))
-      ≡ repair_paper w h full mask frame (length out_frame_lem) (length out_mask_lem)
+  pub repair : (w h full : ℕ) (mask frame out_frame out_mask : List ℕ)
+      → repairs.repair_paper_of (repairs.repair_answer w h full mask frame (length out_frame) (length out_mask))
+      ≡ repair_paper w h full mask frame (length out_frame) (length out_mask)
   pub defective_lines : (lines : ℕ → ℕ → plane-lines.Lines) (w h full : ℕ) (mask frame marks : List ℕ)
       → line-marks.paper_of (line-marks.lines_answer lines w h full mask frame (length marks)) ≡ lines_paper lines w h full mask frame (length marks)
   pub colour_ratios : (w h full black order : ℕ) (mask frame : List ℕ)

@@ -75,13 +75,13 @@ pub record Blind : Type 0 where
       → (find_answer w h full t mask frame (length out) ≡ find_answer w h full t mask other (length out))
       × (find_mask w h full t mask frame out ≡ find_mask w h full t mask other out)
   -- the answer and the mask, and the sample of every site that is surveyed or filled; any other sample is copied
-  pub repair : (w h full : ℕ) (mask frame out_frame_lem out_mask_lem other : List ℕ) → Agree mask frame other
-      → (repair_answer w h full mask frame (length out_frame_lem) (length out_mask_lem) ≡ repair_answer w h full mask other (length out_frame_lem) (length out_mask_lem))
-      × (repair_mask w h full mask frame (length out_frame_lem) out_mask_lem ≡ repair_mask w h full mask other (length out_frame_lem) out_mask_lem)
-  pub repaired_samples : (w h full : ℕ) (mask frame other out_frame_lem out_mask_lem : List ℕ) → Agree mask frame other
-      → repair_verdict w h full mask frame (length out_frame_lem) (length out_mask_lem) ≡ verdict.Clear → (i : ℕ) → i < sites_of w h
-      → (get_or mask i 0 ≡ 0) ⊎ ((get_or mask i 0 ≡ 2) × (get_or (repair_mask w h full mask frame (length out_frame_lem) out_mask_lem) i 0 ≡ 3))
-      → get_or (repair_frame w h full mask frame out_frame_lem (length out_mask_lem)) i 0 ≡ get_or (repair_frame w h full mask other out_frame_lem (length out_mask_lem)) i 0
+  pub repair : (w h full : ℕ) (mask frame out_frame out_mask other : List ℕ) → Agree mask frame other
+      → (repair_answer w h full mask frame (length out_frame) (length out_mask) ≡ repair_answer w h full mask other (length out_frame) (length out_mask))
+      × (repair_mask w h full mask frame (length out_frame) out_mask ≡ repair_mask w h full mask other (length out_frame) out_mask)
+  pub repaired_samples : (w h full : ℕ) (mask frame other out_frame out_mask : List ℕ) → Agree mask frame other
+      → repair_verdict w h full mask frame (length out_frame) (length out_mask) ≡ verdict.Clear → (i : ℕ) → i < sites_of w h
+      → (get_or mask i 0 ≡ 0) ⊎ ((get_or mask i 0 ≡ 2) × (get_or (repair_mask w h full mask frame (length out_frame) out_mask) i 0 ≡ 3))
+      → get_or (repair_frame w h full mask frame out_frame (length out_mask)) i 0 ≡ get_or (repair_frame w h full mask other out_frame (length out_mask)) i 0
   -- of rows and of columns
   pub defective_lines : (lines : ℕ → ℕ → plane-lines.Lines) (w h full : ℕ) (mask frame marks other : List ℕ) → Agree mask frame other
       → (lines_answer lines w h full mask frame (length marks) ≡ lines_answer lines w h full mask other (length marks))
@@ -109,11 +109,11 @@ pub record Gaps : Type 0 where
   pub find_defects : (w h full t : ℕ) (mask frame out : List ℕ) → find_verdict w h full t mask frame (length out) ≡ verdict.Clear
       → (i : ℕ) → i < sites_of w h → get_or mask i 0 ≡ 1 → get_or (find_mask w h full t mask frame out) i 0 ≡ 1
   -- and keeps its sample
-  pub repair : (w h full : ℕ) (mask frame out_frame_lem out_mask_lem : List ℕ)
-      → repair_verdict w h full mask frame (length out_frame_lem) (length out_mask_lem) ≡ verdict.Clear
+  pub repair : (w h full : ℕ) (mask frame out_frame out_mask : List ℕ)
+      → repair_verdict w h full mask frame (length out_frame) (length out_mask) ≡ verdict.Clear
       → (i : ℕ) → i < sites_of w h → get_or mask i 0 ≡ 1
-      → (get_or (repair_mask w h full mask frame (length out_frame_lem) out_mask_lem) i 0 ≡ 1)
-      × (get_or (repair_frame w h full mask frame out_frame_lem (length out_mask_lem)) i 0 ≡ get_or frame i 0)
+      → (get_or (repair_mask w h full mask frame (length out_frame) out_mask) i 0 ≡ 1)
+      × (get_or (repair_frame w h full mask frame out_frame (length out_mask)) i 0 ≡ get_or frame i 0)
   -- the caller may recode a gap (document 02, j): the named site gets the code that was handed in, and every other site, gap or not, keeps its own
   pub shading_recode : (w h full site code : ℕ) (mask frame totals counts : List ℕ)
       → recode_verdict w h full site code mask frame (length totals) (length counts) ≡ verdict.Clear

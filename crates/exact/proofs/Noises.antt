@@ -60,7 +60,7 @@ near-root P r a d g i s e w =
     let hi : 2048 * P * dd ≤ (r + 1) * (r + 1) * dd = mul-le-mul_right dd (le_of_lt i.high) in
     let lo : r * r * dd ≤ 2048 * P * dd = mul-le-mul_right dd i.low in
     record {
-      not_above_lem = omega (arith, square_twice (a - d), mul-le-mul dn dn, mul-mul-mul_comm r d r d);
+      not_above = omega (arith, square_twice (a - d), mul-le-mul dn dn, mul-mul-mul_comm r d r d);
       not_below = omega (arith, square_twice (a + d), mul-le-mul up up, mul-mul-mul_comm (r + 1) d (r + 1) d);
     }
 

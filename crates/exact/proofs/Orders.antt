@@ -13,8 +13,8 @@ use borrow.Author.Tests.{le-ltb, ne_eqb}
 use Rattle.laws.proofs.Cases.{lt_or_ge}
 use Rattle.exact.specs.Bound.{plain, AtMost, ByValue}
 
-not_above_lem : (a b : ℕ) → T (ltb a b || (eqb a b && true)) → a ≤ b
-not_above_lem a b h =
+not_above : (a b : ℕ) → T (ltb a b || (eqb a b && true)) → a ≤ b
+not_above a b h =
     ⊎_elim
     (λ (l : b < a). absurd (rw (le-ltb a b (omega arith), ne_eqb a b (λ e. omega arith)) at h))
     (λ (g : a ≤ b). g)
@@ -28,7 +28,7 @@ values_of (fin true m e) y p q h = absurd p
 values_of (fin false m e) nan p q h = absurd q
 values_of (fin false m e) (inf t) p q h = absurd q
 values_of (fin false m e) (fin true n d) p q h = absurd q
-values_of (fin false m e) (fin false n d) p q h = not_above_lem (m * up e * down d) (n * up d * down e) h
+values_of (fin false m e) (fin false n d) p q h = not_above (m * up e * down d) (n * up d * down e) h
 
 own_value : (x : Float) → T (plain x) → HasValue x false (num x) (den x)
 own_value nan p = absurd p

@@ -26,7 +26,7 @@ pub record CloseTo (t : ℕ) (x : Float) (p q : ℕ) : Type 0 where
 -- a / d is at most 1 from the root of x, by squares on either side: a / d − 1 is at most the root, and the root at most a / d + 1
 -- (`a - d` is 0 where a is below d: a / d − 1 is negative there, and below every root)
 pub record NearRoot (x a d : ℕ) : Type 0 where
-  pub not_above_lem : (a - d) * (a - d) ≤ x * (d * d)
+  pub not_above : (a - d) * (a - d) ≤ x * (d * d)
   pub not_below : x * (d * d) ≤ (a + d) * (a + d)
 
 -- n has an exact float: as an f64 it is a number, finite and not negative, and n itself

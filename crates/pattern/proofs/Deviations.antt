@@ -25,7 +25,7 @@ pub record Reached (n m : ℕ) (d : ℕ → ℤ) : Type 0 where
 
 -- m is the greatest of their sizes: no line from 5 to n − 6 has more than m or less than −m, and some line has m or −m
 pub record GreatestSize (n m : ℕ) (d : ℕ → ℤ) : Type 0 where
-  pub not_above_lem : (i : ℕ) → 5 ≤ i → i + 6 ≤ n → lt_z (pos m) (d i) ≡ false
+  pub not_above : (i : ℕ) → 5 ≤ i → i + 6 ≤ n → lt_z (pos m) (d i) ≡ false
   pub not_below : (i : ℕ) → 5 ≤ i → i + 6 ≤ n → lt_z (d i) (neg_ℤ (pos m)) ≡ false
   pub reached : Reached n m d
 
@@ -47,7 +47,7 @@ module _ (n : ℕ) (C : ℕ → ℕ) where
     pub max-greatest : GreatestSize n (max_of n C) (signed_deviation C)
     unfolding deviation
     max-greatest = record {
-      not_above_lem = λ i p q. ⊖-up-to (10 * C i) (ten_around C i) (max_of n C) (each i p q);
+      not_above = λ i p q. ⊖-up-to (10 * C i) (ten_around C i) (max_of n C) (each i p q);
       not_below = λ i p q. ⊖-down-to (10 * C i) (ten_around C i) (max_of n C) (each i p q);
       reached = max_of_lem n C low (λ (m : ℕ). Reached n m (signed_deviation C)) (λ i p q. record { line = i; first = p; last = q; is = ⊖-either (10 * C i) (ten_around C i) });
     }

@@ -14,7 +14,7 @@ use Rattle.refusals.proofs.Judges.{codes_test, Framed, frame_clear, clear_frame,
 use Rattle.repair.specs.Repair.{repair_verdict}
 
 -- a repair: the frame and the mask that are written
-module _ (w h full : ℕ) (mask frame : List ℕ) (out_frame_lem out_mask_lem : ℕ) where
+module _ (w h full : ℕ) (mask frame : List ℕ) (out_frame out_mask : ℕ) where
   -- the tests in the order of document 01
   abbrev pub repair_tests : List Test
   repair_tests =
@@ -22,27 +22,27 @@ module _ (w h full : ℕ) (mask frame : List ℕ) (out_frame_lem out_mask_lem : 
       ∷ test 2 0 (bad_scale full)
       ∷ test 4 0 (other_than (sites_of w h) (length mask))
       ∷ test 4 0 (other_than (sites_of w h) (length frame))
-      ∷ test 4 0 (other_than (sites_of w h) out_frame_lem)
-      ∷ test 4 0 (other_than (sites_of w h) out_mask_lem)
+      ∷ test 4 0 (other_than (sites_of w h) out_frame)
+      ∷ test 4 0 (other_than (sites_of w h) out_mask)
       ∷ codes_test (sites_of w h) mask
       ∷ samples_test w h full (seen mask frame ∷ []) (seen mask frame)
       ∷ []
 
-  pub repair_table : Tabled (repair_verdict w h full mask frame out_frame_lem out_mask_lem) repair_tests
+  pub repair_table : Tabled (repair_verdict w h full mask frame out_frame out_mask) repair_tests
   unfolding repair_verdict
   repair_table = frame_tabled w h full mask frame tabled_none (tabled_then (tabled _ []) (tabled _ []))
 
-  pub repair_accepted : repair_verdict w h full mask frame out_frame_lem out_mask_lem ≡ Clear
-      → Framed w h full mask frame × (out_frame_lem ≡ sites_of w h) × (out_mask_lem ≡ sites_of w h)
+  pub repair_accepted : repair_verdict w h full mask frame out_frame out_mask ≡ Clear
+      → Framed w h full mask frame × (out_frame ≡ sites_of w h) × (out_mask ≡ sites_of w h)
   unfolding repair_verdict
   repair_accepted e =
       let lent = frame_clear w h full mask frame e in
       let both = then_clear _ _ lent.1 in
-      (lent.2, length_clear (sites_of w h) out_frame_lem both.0, length_clear (sites_of w h) out_mask_lem both.1)
+      (lent.2, length_clear (sites_of w h) out_frame both.0, length_clear (sites_of w h) out_mask both.1)
 
-  pub repair_clear : Framed w h full mask frame → out_frame_lem ≡ sites_of w h → out_mask_lem ≡ sites_of w h
-      → repair_verdict w h full mask frame out_frame_lem out_mask_lem ≡ Clear
+  pub repair_clear : Framed w h full mask frame → out_frame ≡ sites_of w h → out_mask ≡ sites_of w h
+      → repair_verdict w h full mask frame out_frame out_mask ≡ Clear
   unfolding repair_verdict
   repair_clear a long_frame long_mask =
       clear_frame w h full mask frame a refl
-      (clear_then (clear_length (sites_of w h) out_frame_lem long_frame) (clear_length (sites_of w h) out_mask_lem long_mask))
+      (clear_then (clear_length (sites_of w h) out_frame long_frame) (clear_length (sites_of w h) out_mask long_mask))

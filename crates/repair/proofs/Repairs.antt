@@ -134,22 +134,22 @@ module _ (w h : ℕ) (m n : List ℕ) (i j : ℕ) (code : get_or m i 0 ≡ get_o
   same_sample f g k l sample sums = rw (same-filled, sample, sums, ones)
 
 -- what the verdict makes of the answer, its numbers and the two buffers
-module _ (w h full : ℕ) (mask frame out_frame_lem out_mask_lem : List ℕ) where
-  pub repair_refused : (r : Refusal) → repair_verdict w h full mask frame (length out_frame_lem) (length out_mask_lem) ≡ verdict.Refused r
-      → (Refused r ≡ repair_answer w h full mask frame (length out_frame_lem) (length out_mask_lem))
-      × ((repair_paper_of (Refused r) ≡ repair_paper w h full mask frame (length out_frame_lem) (length out_mask_lem))
-      × ((out_frame_lem ≡ repair_frame w h full mask frame out_frame_lem (length out_mask_lem))
-      × (out_mask_lem ≡ repair_mask w h full mask frame (length out_frame_lem) out_mask_lem)))
+module _ (w h full : ℕ) (mask frame out_frame out_mask : List ℕ) where
+  pub repair_refused : (r : Refusal) → repair_verdict w h full mask frame (length out_frame) (length out_mask) ≡ verdict.Refused r
+      → (Refused r ≡ repair_answer w h full mask frame (length out_frame) (length out_mask))
+      × ((repair_paper_of (Refused r) ≡ repair_paper w h full mask frame (length out_frame) (length out_mask))
+      × ((out_frame ≡ repair_frame w h full mask frame out_frame (length out_mask))
+      × (out_mask ≡ repair_mask w h full mask frame (length out_frame) out_mask)))
   unfolding repair_answer repair_paper repair_frame repair_mask
   repair_refused r e = rw e (refl, (refl, (refl, refl)))
 
   pub repair_done : (count : ℕ) (samples codes : List ℕ)
       → count ≡ filled_count w h mask
       → samples ≡ tabulate (sites_of w h) (sample_after w h mask (seen mask frame) frame) → codes ≡ tabulate (sites_of w h) (code_after w h mask)
-      → repair_verdict w h full mask frame (length out_frame_lem) (length out_mask_lem) ≡ verdict.Clear
-      → (Filled count ≡ repair_answer w h full mask frame (length out_frame_lem) (length out_mask_lem))
-      × ((repair_paper_of (Filled count) ≡ repair_paper w h full mask frame (length out_frame_lem) (length out_mask_lem))
-      × ((samples ≡ repair_frame w h full mask frame out_frame_lem (length out_mask_lem))
-      × (codes ≡ repair_mask w h full mask frame (length out_frame_lem) out_mask_lem)))
+      → repair_verdict w h full mask frame (length out_frame) (length out_mask) ≡ verdict.Clear
+      → (Filled count ≡ repair_answer w h full mask frame (length out_frame) (length out_mask))
+      × ((repair_paper_of (Filled count) ≡ repair_paper w h full mask frame (length out_frame) (length out_mask))
+      × ((samples ≡ repair_frame w h full mask frame out_frame (length out_mask))
+      × (codes ≡ repair_mask w h full mask frame (length out_frame) out_mask)))
   unfolding repair_answer repair_paper repair_frame repair_mask
   repair_done count samples codes n s m e = rw (e, n, s, m) (refl, (refl, (refl, refl)))

@@ -41,13 +41,13 @@ filled_count w h mask = sum_to (sites_of w h) (filled_at w h mask)
 
 -- the refusals in their order, of the mask, the frame and the lengths of the two buffers that are written: 1, 2, 4, 5, 6
 unfoldable pub repair_verdict : ℕ → ℕ → ℕ → List ℕ → List ℕ → ℕ → ℕ → Verdict
-repair_verdict w h full mask frame out_frame_lem out_mask_lem =
-    frame_verdict w h full verdict.Clear mask frame (length_of w h out_frame_lem ⨟ length_of w h out_mask_lem)
+repair_verdict w h full mask frame out_frame out_mask =
+    frame_verdict w h full verdict.Clear mask frame (length_of w h out_frame ⨟ length_of w h out_mask)
 
 -- the answer: the count, or the refusal
 unfoldable pub repair_answer : ℕ → ℕ → ℕ → List ℕ → List ℕ → ℕ → ℕ → Repaired
-repair_answer w h full mask frame out_frame_lem out_mask_lem =
-    answer_of (repair_verdict w h full mask frame out_frame_lem out_mask_lem) (Filled (filled_count w h mask)) Refused
+repair_answer w h full mask frame out_frame out_mask =
+    answer_of (repair_verdict w h full mask frame out_frame out_mask) (Filled (filled_count w h mask)) Refused
 
 -- the paper's numbers of an answer
 abbrev pub repair_paper_of : Repaired → CountedPaper ℕ
@@ -56,16 +56,16 @@ repair_paper_of (Refused r) = refused_counted r 0
 
 -- the paper's numbers for all inputs
 unfoldable pub repair_paper : ℕ → ℕ → ℕ → List ℕ → List ℕ → ℕ → ℕ → CountedPaper ℕ
-repair_paper w h full mask frame out_frame_lem out_mask_lem =
-    counted_for (repair_verdict w h full mask frame out_frame_lem out_mask_lem) (filled_count w h mask) 0
+repair_paper w h full mask frame out_frame out_mask =
+    counted_for (repair_verdict w h full mask frame out_frame out_mask) (filled_count w h mask) 0
 
 -- the output frame and the output mask afterwards, or as they were
 unfoldable pub repair_frame : ℕ → ℕ → ℕ → List ℕ → List ℕ → List ℕ → ℕ → List ℕ
-repair_frame w h full mask frame out_frame_lem out_mask_lem =
-    if_clear (repair_verdict w h full mask frame (length out_frame_lem) out_mask_lem)
+repair_frame w h full mask frame out_frame out_mask =
+    if_clear (repair_verdict w h full mask frame (length out_frame) out_mask)
     (tabulate (sites_of w h) (sample_after w h mask (seen mask frame) frame))
-    out_frame_lem
+    out_frame
 
 unfoldable pub repair_mask : ℕ → ℕ → ℕ → List ℕ → List ℕ → ℕ → List ℕ → List ℕ
-repair_mask w h full mask frame out_frame_lem out_mask_lem =
-    if_clear (repair_verdict w h full mask frame out_frame_lem (length out_mask_lem)) (tabulate (sites_of w h) (code_after w h mask)) out_mask_lem
+repair_mask w h full mask frame out_frame out_mask =
+    if_clear (repair_verdict w h full mask frame out_frame (length out_mask)) (tabulate (sites_of w h) (code_after w h mask)) out_mask

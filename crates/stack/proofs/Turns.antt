@@ -34,16 +34,16 @@ module _ (full : ℕ) (mask : List ℕ) (s : Stack) where
   unfolding impossible_in
   asked_none = sym (some_none _)
 
-  pub asked_more : (i k_or_one_lem most : ℕ) (found bad : Bool) → k_or_one_lem ≡ or_one s.frames → most ≡ top full s.frames → found ≡ impossible_in i full mask s
+  pub asked_more : (i k_or_one most : ℕ) (found bad : Bool) → k_or_one ≡ or_one s.frames → most ≡ top full s.frames → found ≡ impossible_in i full mask s
       → bad
-      ≡ beyond s.frames k_or_one_lem (s.frames * (full * full)) most (get_or s.sums i 0) (get_or s.squares i 0) (get_or s.least i 0) (get_or s.greatest i 0)
+      ≡ beyond s.frames k_or_one (s.frames * (full * full)) most (get_or s.sums i 0) (get_or s.squares i 0) (get_or s.least i 0) (get_or s.greatest i 0)
       → (found || surveyed (get_or mask i 0) && bad) ≡ impossible_in (i + 1) full mask s
   unfolding impossible_in seen
-  asked_more i k_or_one_lem most found bad o m f e =
+  asked_more i k_or_one most found bad o m f e =
       ap₂ ◌||◌ f (ap (λ (b : Bool). surveyed (get_or mask i 0) && b) (e ∙ limited) ∙ asked_seen full s.frames (get_or mask i 0) _ _ _ _)
       ∙ some_more (impossible_at full mask s) i
     where
-      limited : beyond s.frames k_or_one_lem (s.frames * (full * full)) most (get_or s.sums i 0) (get_or s.squares i 0) (get_or s.least i 0) (get_or s.greatest i 0)
+      limited : beyond s.frames k_or_one (s.frames * (full * full)) most (get_or s.sums i 0) (get_or s.squares i 0) (get_or s.least i 0) (get_or s.greatest i 0)
           ≡ impossible full s.frames (get_or s.sums i 0) (get_or s.squares i 0) (get_or s.least i 0) (get_or s.greatest i 0)
       limited = rw (o, m) (by_limits full s.frames (get_or s.sums i 0) (get_or s.squares i 0) (get_or s.least i 0) (get_or s.greatest i 0))
 

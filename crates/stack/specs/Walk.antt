@@ -18,8 +18,8 @@ or_one k = cond (eqb k 0) 1 k
 -- 11 at one site by what is the same at every site: the count k, the count or 1, k × full scale² and the most that a greatest sample can be. The law
 -- `by_limits` says that these tests are all of 11
 unfoldable pub beyond : ℕ → ℕ → ℕ → ℕ → ℕ → ℕ → ℕ → ℕ → Bool
-beyond k k_or_one_lem most_squares_lem most s q least greatest =
-    (((ltb (k * q) (s * s) || ltb most_squares_lem q) || ltb s (k_or_one_lem * least)) || ltb (k * greatest) s) || ltb most greatest
+beyond k k_or_one most_squares most s q least greatest =
+    (((ltb (k * q) (s * s) || ltb most_squares q) || ltb s (k_or_one * least)) || ltb (k * greatest) s) || ltb most greatest
 
 -- whether 11 is found, of a stack of at most 100 frames that can be walked: any other gets 2, 3 or 4 before
 unfoldable pub found_impossible : ℕ → List ℕ → Stack → Bool

@@ -16,8 +16,8 @@ use Rattle.shading.proofs.judge_ratio.Goals.{After-shade_of-shade, In-loop-k}
 
 -- a place of the buffers
 place : (c : In-loop-k)
-    → (c).args.ratio * c.blocks-blocks.result + c.loop-k.k
-    < 2 * blocks_of (c).args.asked.width (c).args.asked.height
+    → c.args.ratio * c.blocks-blocks.result + c.loop-k.k
+    < 2 * blocks_of c.args.asked.width c.args.asked.height
 place c = let inside : c.args.ratio * c.blocks-blocks.result + c.loop-k.k < 2 * c.blocks-blocks.result = digits_lt c.requires.black_bound.2 (omega arith) in
     omega (arith, inside, c.blocks-blocks.ensures.0)
 
@@ -33,7 +33,7 @@ tint_at-centre-requires-clause-colour_bound c = let low = rw (← c.planes_of-of
     (low.colour, low.green, omega (arith, c.blocks-blocks.ensures.0))
 
 pub tint_at-block-requires-clause-colour_bound : goal.tint_at-block-requires-clause-colour_bound
-tint_at-block-requires-clause-colour_bound c = let low = rw (← c.planes_of-of.ensures) c (in_four c.args.asked.order c.args.ratio) in
+tint_at-block-requires-clause-colour_bound c = let low = rw (← c.planes_of-of.ensures) at (in_four c.args.asked.order c.args.ratio) in
     (low.colour, low.green, omega (arith, c.blocks-blocks.ensures.0))
 
 pub shade_of-shade-requires-clause-possible : goal.shade_of-shade-requires-clause-possible
@@ -41,14 +41,14 @@ shade_of-shade-requires-clause-possible c = let a = c.args in
     let counted = c.blocks-blocks.ensures.0 in
     let of-block = block_sites a.asked.width a.asked.height c.loop-k.k (omega (arith, counted)) in
     let of-centre = centre_sites a.asked.width a.asked.height c.blocks-blocks.result (omega (arith, counted)) in
-    rw of-block c c.tint_at-block.ensures.possible
+    rw of-block at c.tint_at-block.ensures.possible
 
 pub shade_of-shade-requires-clause-possible_2 : goal.shade_of-shade-requires-clause-possible_2
 shade_of-shade-requires-clause-possible_2 c = let a = c.args in
     let counted = c.blocks-blocks.ensures.0 in
     let of-block = block_sites a.asked.width a.asked.height c.loop-k.k (omega (arith, counted)) in
     let of-centre = centre_sites a.asked.width a.asked.height c.blocks-blocks.result (omega (arith, counted)) in
-    rw of-centre c c.tint_at-centre.ensures.possible
+    rw of-centre at c.tint_at-centre.ensures.possible
 
 pub loop-k-preserved : goal.loop-k-preserved
 loop-k-preserved c = let long = c.requires.black_bound in

@@ -15,78 +15,40 @@ abbrev Given : After-judge → Asked
 Given c = let a = c.args in asked a.width a.height a.full_scale a.black_level a.bayer_order a.limit
 
 abbrev Long : After-judge → Lengths
-Long c = let a = c.args in lengths (length a.numerators-1.now) (length a.denominators-1.now) (length a.refusals-1.now) (length a.fails-1.now)
+Long c = let a = c.args in lengths (length a.numerators.now) (length a.denominators.now) (length a.refusals.now) (length a.fails.now)
 
 judged : (c : After-judge) → c.judge.result ≡ judge_verdict (Given c) (Long c) c.args.totals.now c.args.counts.now
 judged c = let a = c.args in
     c.judge.ensures ∙ ap₂ (λ (g : Asked) (l : Lengths). judge_verdict g l a.totals.now a.counts.now) c.asked_of-asked.ensures c.lengths_of-long.ensures
 
 pub judge_blocks-requires-clause-black_bound : goal.judge_blocks-requires-clause-black_bound
-judge_blocks-requires-clause-black_bound c = let a = accepted (Given c) (Long c) _ _ (sym (judged (goal.at.judge_blocks-requires-clause-black_bound c).After-judge) ∙ c.in-Clear.is) in
-    let l = a.of in
-    (rw c.asked_of-asked.ensures ((omega (arith, l.dark, l.scale), l.limit_high, l.numerators_long, l.denominators_long, l.refusals_long, l.fails-long), (l.scale, l.totals_long, l.counts_long, a.possible))).0
+judge_blocks-requires-clause-black_bound c = let j = (goal.at.judge_blocks-requires-clause-black_bound c).After-judge in
+    let l = (accepted (Given j) (Long j) _ _ (sym (judged j) ∙ c.in-Clear.is)).of in
+    rw c.asked_of-asked.ensures (omega (arith, l.dark, l.scale), l.limit_high, l.numerators_long, l.denominators_long, l.refusals_long, l.fails-long)
 
 pub judge_blocks-requires-clause-whole : goal.judge_blocks-requires-clause-whole
-judge_blocks-requires-clause-whole c = let a = accepted (Given c) (Long c) _ _ (sym (judged (goal.at.judge_blocks-requires-clause-whole c).After-judge) ∙ c.in-Clear.is) in
+judge_blocks-requires-clause-whole c = let j = (goal.at.judge_blocks-requires-clause-whole c).After-judge in
+    let a = accepted (Given j) (Long j) _ _ (sym (judged j) ∙ c.in-Clear.is) in
     let l = a.of in
-    (rw c.asked_of-asked.ensures ((omega (arith, l.dark, l.scale), l.limit_high, l.numerators_long, l.denominators_long, l.refusals_long, l.fails-long), (l.scale, l.totals_long, l.counts_long, a.possible))).1
+    rw c.asked_of-asked.ensures (l.scale, l.totals_long, l.counts_long, a.possible)
 
-pub returns-in-Refused-clause-answer : goal.returns-in-Refused-clause-answer
-returns-in-Refused-clause-answer c = (refused_is (Given c) (Long c) _ _ _ _ _ _ _ (sym (judged (goal.at.returns-in-Refused-clause-answer c).After-judge) ∙ c.in-Refused.is)).0
+pub returns-in-Refused : goal.returns-in-Refused
+returns-in-Refused c = let j = (goal.at.returns-in-Refused c).After-judge in
+    let a = c.args in
+    let r = refused_is (Given j) (Long j) _ _ a.numerators.now a.denominators.now a.refusals.now a.fails.now _ (sym (judged j) ∙ c.in-Refused.is) in
+    record { answer = r.0; paper = r.1.0; numerators = r.1.1.0; denominators = r.1.1.1.0; refusals = r.1.1.1.1.0; fails = r.1.1.1.1.1 }
 
-pub returns-in-Refused-clause-paper : goal.returns-in-Refused-clause-paper
-returns-in-Refused-clause-paper c = (refused_is (Given c) (Long c) _ _ _ _ _ _ _ (sym (judged (goal.at.returns-in-Refused-clause-paper c).After-judge) ∙ c.in-Refused.is)).1.0
-
-pub returns-in-Refused-clause-numerators : goal.returns-in-Refused-clause-numerators
-returns-in-Refused-clause-numerators c = (refused_is (Given c) (Long c) _ _ _ _ _ _ _ (sym (judged (goal.at.returns-in-Refused-clause-numerators c).After-judge) ∙ c.in-Refused.is)).1.1.0
-
-pub returns-in-Refused-clause-denominators : goal.returns-in-Refused-clause-denominators
-returns-in-Refused-clause-denominators c = (refused_is (Given c) (Long c) _ _ _ _ _ _ _ (sym (judged (goal.at.returns-in-Refused-clause-denominators c).After-judge) ∙ c.in-Refused.is)).1.1.1.0
-
-pub returns-in-Refused-clause-refusals : goal.returns-in-Refused-clause-refusals
-returns-in-Refused-clause-refusals c = (refused_is (Given c) (Long c) _ _ _ _ _ _ _ (sym (judged (goal.at.returns-in-Refused-clause-refusals c).After-judge) ∙ c.in-Refused.is)).1.1.1.1.0
-
-pub returns-in-Refused-clause-fails : goal.returns-in-Refused-clause-fails
-returns-in-Refused-clause-fails c = (refused_is (Given c) (Long c) _ _ _ _ _ _ _ (sym (judged (goal.at.returns-in-Refused-clause-fails c).After-judge) ∙ c.in-Refused.is)).1.1.1.1.1
-
-pub returns-in-Clear-clause-answer : goal.returns-in-Clear-clause-answer
-returns-in-Clear-clause-answer c = let a = c.args in
-    let done = accepted_is (Given c) (Long c) _ _ a.numerators-1.now a.denominators-1.now a.refusals-1.now a.fails-1.now (sym (judged (goal.at.returns-in-Clear-clause-answer c).After-judge) ∙ c.in-Clear.is) in
-    let shades = rw c.asked_of-asked.ensures at c.judge_blocks.ensures in
+pub returns-in-Clear : goal.returns-in-Clear
+returns-in-Clear c = let j = (goal.at.returns-in-Clear c).After-judge in
+    let a = c.args in
+    let done = accepted_is (Given j) (Long j) _ _ a.numerators.now a.denominators.now a.refusals.now a.fails.now (sym (judged j) ∙ c.in-Clear.is) in
+    let shades = c.judge_blocks.ensures in
     let buffers = done.1.1 in
-    done.0
-
-pub returns-in-Clear-clause-paper : goal.returns-in-Clear-clause-paper
-returns-in-Clear-clause-paper c = let a = c.args in
-    let done = accepted_is (Given c) (Long c) _ _ a.numerators-1.now a.denominators-1.now a.refusals-1.now a.fails-1.now (sym (judged (goal.at.returns-in-Clear-clause-paper c).After-judge) ∙ c.in-Clear.is) in
-    let shades = rw c.asked_of-asked.ensures at c.judge_blocks.ensures in
-    let buffers = done.1.1 in
-    done.1.0
-
-pub returns-in-Clear-clause-numerators : goal.returns-in-Clear-clause-numerators
-returns-in-Clear-clause-numerators c = let a = c.args in
-    let done = accepted_is (Given c) (Long c) _ _ a.numerators-1.now a.denominators-1.now a.refusals-1.now a.fails-1.now (sym (judged (goal.at.returns-in-Clear-clause-numerators c).After-judge) ∙ c.in-Clear.is) in
-    let shades = rw c.asked_of-asked.ensures at c.judge_blocks.ensures in
-    let buffers = done.1.1 in
-    shades.0 ∙ buffers.0
-
-pub returns-in-Clear-clause-denominators : goal.returns-in-Clear-clause-denominators
-returns-in-Clear-clause-denominators c = let a = c.args in
-    let done = accepted_is (Given c) (Long c) _ _ a.numerators-1.now a.denominators-1.now a.refusals-1.now a.fails-1.now (sym (judged (goal.at.returns-in-Clear-clause-denominators c).After-judge) ∙ c.in-Clear.is) in
-    let shades = rw c.asked_of-asked.ensures at c.judge_blocks.ensures in
-    let buffers = done.1.1 in
-    shades.1.0 ∙ buffers.1.0
-
-pub returns-in-Clear-clause-refusals : goal.returns-in-Clear-clause-refusals
-returns-in-Clear-clause-refusals c = let a = c.args in
-    let done = accepted_is (Given c) (Long c) _ _ a.numerators-1.now a.denominators-1.now a.refusals-1.now a.fails-1.now (sym (judged (goal.at.returns-in-Clear-clause-refusals c).After-judge) ∙ c.in-Clear.is) in
-    let shades = rw c.asked_of-asked.ensures at c.judge_blocks.ensures in
-    let buffers = done.1.1 in
-    shades.1.1.0 ∙ buffers.1.1.0
-
-pub returns-in-Clear-clause-fails : goal.returns-in-Clear-clause-fails
-returns-in-Clear-clause-fails c = let a = c.args in
-    let done = accepted_is (Given c) (Long c) _ _ a.numerators-1.now a.denominators-1.now a.refusals-1.now a.fails-1.now (sym (judged (goal.at.returns-in-Clear-clause-fails c).After-judge) ∙ c.in-Clear.is) in
-    let shades = rw c.asked_of-asked.ensures at c.judge_blocks.ensures in
-    let buffers = done.1.1 in
-    shades.1.1.1 ∙ buffers.1.1.1
+    record {
+      answer = done.0;
+      paper = done.1.0;
+      numerators = (rw c.asked_of-asked.ensures at shades.numerators_after) ∙ buffers.0;
+      denominators = (rw c.asked_of-asked.ensures at shades.denominators_after) ∙ buffers.1.0;
+      refusals = (rw c.asked_of-asked.ensures at shades.refusals_after) ∙ buffers.1.1.0;
+      fails = (rw c.asked_of-asked.ensures at shades.fails_after) ∙ buffers.1.1.1;
+    }

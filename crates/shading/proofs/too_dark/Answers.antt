@@ -5,4 +5,4 @@ use Rattle.shading.proofs.too_dark.Goals as goal
 
 pub returns : goal.returns
 unfolding too_dark
-returns c = rw (c.not_above_lem.ensures, c.not_above-centre_green.ensures, c.not_above-centre_colour.ensures)
+returns c = rw (c.not_above-block_green.ensures, c.not_above-centre_green.ensures, c.not_above-centre_colour.ensures)
