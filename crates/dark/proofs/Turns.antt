@@ -28,11 +28,11 @@ chosen code x black z e = by (surveyed code) e
     by false e = rw (mul-zero black) (e ∙ sym (⊖-self 0))
 
 module _ (black : ℕ) (mask frame : List ℕ) where
-  pub start : Is 0 (sum_to 0 (seen mask frame)) (black * sum_to 0 (one mask))
-  start = rw (← sum_none (seen mask frame), ← sum_none (one mask), mul-zero black) (nat_is 0 (omega arith))
+  pub start : pos 0 ≡ sum_to 0 (seen mask frame) ⊖ black * sum_to 0 (one mask)
+  start = rw (← sum_none (seen mask frame), ← sum_none (one mask), mul-zero black) (sym (⊖-self 0))
 
   module _ (i sum : ℕ) (z : ℤ) (small : black ≤ 4095) (inside : i < 16384) (fits : (j : ℕ) → Fits w16 (get_or frame j 0))
-      (so_far : Is sum (sum_to i (seen mask frame)) (black * sum_to i (one mask)))
+      (so_far : to_z w64 sum ≡ sum_to i (seen mask frame) ⊖ black * sum_to i (one mask))
       (here : z ≡ cond (surveyed (get_or mask i 0)) (to_z w64 (of_z w64 (to_z w64 (get_or frame i 0) -ℤ to_z w64 black))) (pos 0)) where
     low : (j : ℕ) → seen mask frame j ≤ 65535
     low j = rw seen_is (seen_le (get_or mask j 0) (get_or frame j 0) 65535 (omega (arith, fits j)))
@@ -42,6 +42,9 @@ module _ (black : ℕ) (mask frame : List ℕ) where
 
     down : black * sum_to i (one mask) ≤ 4095 * 16384
     down = times_le black (sum_to i (one mask)) 4095 16384 small (omega (arith, surveyed-few mask i))
+
+    summed : Is sum (sum_to i (seen mask frame)) (black * sum_to i (one mask))
+    summed = record { val = so_far; up = omega (arith, up); down = omega (arith, down) }
 
     one_down : black * one mask i ≤ 4095 * 1
     one_down = rw one_is (times_le black (seen_at (get_or mask i 0) 1) 4095 1 small (seen_le (get_or mask i 0) 1 1 (omega arith)))
@@ -54,9 +57,9 @@ module _ (black : ℕ) (mask frame : List ℕ) where
         laid_is z (seen mask frame i) (black * one mask i) v (omega (arith, low i)) (omega (arith, one_down))
 
     pub turn_fits : SFits w64 (to_z w64 sum +ℤ to_z w64 (of_z w64 z))
-    turn_fits = add_fits so_far added (omega (arith, up, low i)) (omega (arith, down, one_down))
+    turn_fits = add_fits summed added (omega (arith, up, low i)) (omega (arith, down, one_down))
 
-    pub turn : Is (of_z w64 (to_z w64 sum +ℤ to_z w64 (of_z w64 z))) (sum_to (i + 1) (seen mask frame)) (black * sum_to (i + 1) (one mask))
+    pub turn : to_z w64 (of_z w64 (to_z w64 sum +ℤ to_z w64 (of_z w64 z))) ≡ sum_to (i + 1) (seen mask frame) ⊖ black * sum_to (i + 1) (one mask)
     turn =
         rw (← sum_more i (seen mask frame), ← sum_more i (one mask), mul-add black (sum_to i (one mask)) (one mask i))
-        (add_is so_far added (omega (arith, up, low i)) (omega (arith, down, one_down)))
+        (add_is summed added (omega (arith, up, low i)) (omega (arith, down, one_down))).val

@@ -22,9 +22,9 @@ shown c = whole _ _ _ _ _ _ _ (unrefused c) _ c.centres_seen-seen.ensures
 
 -- nothing is refused
 clear : (c : In-Clear)
-    → colour_verdict (c).args.width (c).args.height (c).args.full_scale (c).args.black_level (c).args.bayer_order (c).args.mask.now (c).args.frame.now
+    → colour_verdict c.args.width c.args.height c.args.full_scale c.args.black_level c.args.bayer_order c.args.mask.now c.args.frame.now
     ≡ verdict.Clear
-clear c = sym (rest _ _ _ _ _ _ _ (unrefused c) _ c.centres_seen-seen.ensures) ∙ sym c.judge_centres.ensures ∙ c.in-Clear.is
+clear c = sym (rest _ _ _ _ _ _ _ (sym c.judge-lent.ensures ∙ c.in_default.is) _ c.centres_seen-seen.ensures) ∙ sym c.judge_centres.ensures ∙ c.in-Clear.is
 
 pub returns-in-Refused-clause-answer : goal.returns-in-Refused-clause-answer
 returns-in-Refused-clause-answer c = (refused_is _ _ _ _ _ _ _ _ (lent_refused _ _ _ _ _ _ _ _ (sym c.judge-lent.ensures ∙ c.in-Refused.is))).0
