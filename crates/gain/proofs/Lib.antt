@@ -1,4 +1,3 @@
 pub mod Slopes
 pub mod Walks
-pub mod Calls
 pub mod Promises

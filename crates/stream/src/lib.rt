@@ -92,6 +92,7 @@ fn body_fields(s: &[u8], n: usize) -> Verdict
     )
 }
 
+#[tactic(auto, unfolding(crate::specs::Stream::wide_sides))]
 fn wide_sides(width: usize, height: usize) -> bool
     ensures { result ≡ wide_sides width height }
 {
