@@ -62,7 +62,7 @@ module _ (w h full spread : ℕ) (mask : List ℕ) (s : Stack) where
         a.frames,
       )
 
-  -- none-surveyed: where no site is surveyed, what 1 to 5 let pass gets the count 0: there is no 7, and 11 asks nothing there
+  -- none_surveyed: where no site is surveyed, what 1 to 5 let pass gets the count 0: there is no 7, and 11 asks nothing there
   pub none_surveyed : Lent w h full spread mask s → sum_to (sites_of w h) (one mask) ≡ 0 → blinking_answer w h full spread mask s ≡ Sites 0
   unfolding blinking_answer
   none_surveyed lent none =

@@ -77,7 +77,7 @@ pub record Credible (full sites total count : ℕ) : Type 0 where
   pub few : count ≤ sites
   pub low : total ≤ count * full
 
--- own-credible: so is every entry of the table of a mask and a frame, so of a table that is made, and of one recoded
+-- own_credible: so is every entry of the table of a mask and a frame, so of a table that is made, and of one recoded
 pub own_credible : (w h full : ℕ) (mask frame totals counts : List ℕ) → TableOf w h full mask frame totals counts
     → (e : ℕ) → e < entries_of w h → Credible full (area_sites w h (entry_area w h e)) (held totals e) (held counts e)
 own_credible w h full mask frame totals counts is e below =
@@ -162,7 +162,7 @@ module _ (w h full site code : ℕ) (mask frame totals counts : List ℕ) where
 pub grid : (w h : ℕ) → bad_sides w h ≡ false → blocks_of w h ≡ w / 2 / 16 * (h / 2 / 12)
 grid = blocks_are
 
--- block-placed: the block in row r and column c of that grid, from the plane's top left, has just the sites of the plane's rows 12 r to 12 r + 11 and columns
+-- block_placed: the block in row r and column c of that grid, from the plane's top left, has just the sites of the plane's rows 12 r to 12 r + 11 and columns
 -- 16 c to 16 c + 15, and its entry is r × (w / 2 / 16) + c of the plane's
 pub block_placed : (w h site plane r c : ℕ) → bad_sides w h ≡ false → r < h / 2 / 12 → c < w / 2 / 16
     → (Lies w h site (plane * (blocks_of w h + 1) + (r * (w / 2 / 16) + c)) → InBlock w site plane r c)
@@ -170,13 +170,13 @@ pub block_placed : (w h site plane r c : ℕ) → bad_sides w h ≡ false → r 
 block_placed w h site plane r c legal low near =
     (lies_in_block w h site plane r c legal low near, block_lies w h site plane r c legal low near)
 
--- centre-placed: the last entry of a plane's has just the sites of its centre
+-- centre_placed: the last entry of a plane's has just the sites of its centre
 pub centre_placed : (w h site plane : ℕ)
     → (Lies w h site (plane * (blocks_of w h + 1) + blocks_of w h) → InCentre w h site plane)
     × (InCentre w h site plane → Lies w h site (plane * (blocks_of w h + 1) + blocks_of w h))
 centre_placed w h site plane = (lies_in_centre w h site plane, centre_lies w h site plane)
 
--- left-over: a site past the last whole block across or down, and outside its plane's centre, lies in no area
+-- left_over: a site past the last whole block across or down, and outside its plane's centre, lies in no area
 pub left_over : (w h site : ℕ) → (12 * (h / 2 / 12) ≤ plane_row w site) ⊎ (16 * (w / 2 / 16) ≤ plane_column w site)
     → (InCentre w h site (plane_of w site) → ⊥) → (e : ℕ) → Lies w h site e → ⊥
 left_over w h site past outside e l = ⊎_elim in_block at_centre (lt_or_ge (entry_area w h e) (blocks_of w h))

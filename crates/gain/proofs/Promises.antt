@@ -43,7 +43,7 @@ to_chosen first last P h k l = h (first + k) (omega arith) (omega arith)
 abbrev pub OneMean : Curve → ℕ → ℕ → Type 0
 OneMean c first last = (i j : ℕ) → first ≤ i → i ≤ last → first ≤ j → j ≤ last → c.mean i ≡ c.mean j
 
--- never-negative: m × Σx² − (Σx)² is never below 0, so the denominator is that number itself
+-- never_negative: m × Σx² − (Σx)² is never below 0, so the denominator is that number itself
 pub never_negative : (c : Curve) → joint_spread c.count c.mean c.mean ≡ pos (denominator c)
 never_negative c = slopes.never_negative c.count c.mean
 
@@ -108,7 +108,7 @@ module _ (c : Curve) (first last : ℕ) where
     point : (k : ℕ) → k < picked.count → (picked.mean k ≤ 65520) × (picked.variance k ≤ 268435456)
     point k l = limits (picked.mean k) (picked.variance k) (within.fine (first + k) (omega (arith, within.ends.inside)))
 
-    -- in-limits: the denominator is at most 4,395,899,289,600, so below 2^53; the numerator at most 72,040,001,851,883,520 in size, so below 2^63
+    -- in_limits: the denominator is at most 4,395,899,289,600, so below 2^53; the numerator at most 72,040,001,851,883,520 in size, so below 2^63
     pub in_limits : (denominator picked ≤ 4395899289600) × (denominator picked < 2 ^ 53)
         × (nat_abs (numerator picked) ≤ 72040001851883520) × (nat_abs (numerator picked) < 2 ^ 63)
     in_limits =
@@ -174,7 +174,7 @@ module _ (c : Curve) (first last : ℕ) (g : Gain) (answer : transfer_answer c f
   pub whole_numbers : (g.numerator ≡ numerator (chosen c first last)) × (g.denominator ≡ denominator (chosen c first last)) × (0 < g.denominator)
   whole_numbers = rw told.1 (refl, refl, passed.some)
 
-  -- in-range: the numerator is below 2^53 in size, and the denominator at most 4,395,899,289,600
+  -- in_range: the numerator is below 2^53 in size, and the denominator at most 4,395,899,289,600
   pub in_range : (nat_abs g.numerator < 2 ^ 53) × (g.denominator ≤ 4395899289600)
   in_range = rw told.1 (passed.small, (in_limits c first last passed.list passed.ends).0)
 
@@ -319,7 +319,7 @@ exposure points others first last long same =
 abbrev pub rows_of : List Point → List (List ℕ)
 rows_of points = map (λ (p : Point). p.exposure ∷ p.mean ∷ p.variance ∷ []) points
 
--- rows-are-points: they are read as the points
+-- rows_are_points: they are read as the points
 pub rows_are_points : (points : List Point) → curve_of_rows (rows_of points) ≡ curve_of points
 rows_are_points points = same_curve (curve_of_rows (rows_of points)) (curve_of points) (length-map points _) (row points)
   where
@@ -340,7 +340,7 @@ module _ (c : Curve) (first : ℕ) where
   two : first + 1 + 1 - first ≡ 2
   two = omega arith
 
-  -- two-points: the slope is rise / run, exactly: the numerator is run × rise and the denominator run × run
+  -- two_points: the slope is rise / run, exactly: the numerator is run × rise and the denominator run × run
   pub two_points : (numerator (chosen c first (first + 1)) ≡ run *ℤ rise)
       × (pos (denominator (chosen c first (first + 1))) ≡ run *ℤ run)
       × (numerator (chosen c first (first + 1)) *ℤ run ≡ rise *ℤ pos (denominator (chosen c first (first + 1))))

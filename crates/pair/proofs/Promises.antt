@@ -88,7 +88,7 @@ module _ (w h full : ℕ) (mask first second : List ℕ) (figures : PairFigures)
   pub whole_numbers : (figures.p ≡ (pair_spread w h mask first second).p) × (figures.q ≡ 2 * (figures.n * figures.n))
   whole_numbers = rw are (refl, refl)
 
-  -- in-range: Q is from 8 to 2^29 and r at most 3,036,259,044; as floats, the variance is at most full scale² / 2 and the noise at most 0.7072 × full scale
+  -- in_range: Q is from 8 to 2^29 and r at most 3,036,259,044; as floats, the variance is at most full scale² / 2 and the noise at most 0.7072 × full scale
   pub in_range : (8 ≤ figures.q) × (figures.q ≤ 2 ^ 29) × (figures.r ≤ 3036259044)
       × T (le figures.variance (quotient (full * full) 2))
       × T (le figures.noise (quotient (7072 * full) 10000))
@@ -105,7 +105,7 @@ module _ (w h full : ℕ) (mask first second : List ℕ) (figures : PairFigures)
         quotient_mono (root (2048 * s.p)) (64 * s.n) (7072 * full) 10000 (omega (arith, passed.two)) (omega arith) (omega (arith, root_most s.p (s.n * full) most)),
       )
 
-  -- in-limits: P is at most (n × full scale)², so below 2^53, and so is Q; both are exact as floats
+  -- in_limits: P is at most (n × full scale)², so below 2^53, and so is Q; both are exact as floats
   pub in_limits : (figures.p ≤ figures.n * full * (figures.n * full)) × (figures.p < 2 ^ 53) × (figures.q < 2 ^ 53)
       × ExactFloat figures.p × ExactFloat figures.q
   in_limits =

@@ -49,7 +49,7 @@ module _ {a : PairFigures} (x : Answered a) where
   are : a ≡ figures_of from
   are = was.1
 
-  -- one-pattern: each float is a number, finite and not negative, and has one pattern of bits: so equal ones are equal bit for bit
+  -- one_pattern: each float is a number, finite and not negative, and has one pattern of bits: so equal ones are equal bit for bit
   pub one_pattern : OnePattern a.variance × OnePattern a.noise
   one_pattern = rw are (quotient-pattern _ _ (variance-ranged _ _ within), quotient-pattern _ _ (noise_ranged _ _ within))
 
@@ -61,11 +61,11 @@ module _ {a b : PairFigures} (x : Answered a) (y : Answered b) where
       let v = one_pattern y in
       (by_value _ _ u.0.is_plain v.0.is_plain, by_value _ _ u.1.is_plain v.1.is_plain)
 
-  -- variance-rank: where the one exact variance, P/Q, is at most the other, so is its float, whatever the two n
+  -- variance_rank: where the one exact variance, P/Q, is at most the other, so is its float, whatever the two n
   pub variance_rank : a.p * b.q ≤ b.p * a.q → AtMost a.variance b.variance
   variance_rank h = rw (are x, are y) (ranks.variance_rank _ _ _ _ (within x) (within y) (rw (are x, are y) at h))
 
-  -- variance-equal: and equal ones have one float
+  -- variance_equal: and equal ones have one float
   pub variance_equal : a.p * b.q ≡ b.p * a.q → a.variance ≡ b.variance
   variance_equal e = rw (are x, are y) (ranks.variance_equal _ _ _ _ (within x) (within y) (rw (are x, are y) at e))
 
@@ -73,7 +73,7 @@ module _ {a b : PairFigures} (x : Answered a) (y : Answered b) where
     equally : (from x).n ≡ (from y).n
     equally = rw (are x, are y) at as_many
 
-    -- noise-rank: at equal n, where the one exact variance is at most the other, so is its noise float
+    -- noise_rank: at equal n, where the one exact variance is at most the other, so is its noise float
     pub noise_rank : a.p * b.q ≤ b.p * a.q → AtMost a.noise b.noise
     noise_rank h = rw (are x, are y) (ranks.noise_rank _ _ _ _ (within x) (within y) equally (rw (are x, are y) at h))
 
@@ -104,7 +104,7 @@ module _ (w h full : ℕ) (mask : List ℕ) where
 
   -- one constant, up less down, added to every surveyed sample of a frame, none leaving 0 to full scale
   module _ (up down : ℕ) (frame other : List ℕ) (drifted : Drifted up down full mask frame other) where
-    -- shift-first: of the first frame: an accepted pair is accepted still, with the same answer
+    -- shift_first: of the first frame: an accepted pair is accepted still, with the same answer
     pub shift_first : (second : List ℕ) (figures : PairFigures)
         → pair_answer w h full mask frame second ≡ Measured figures → pair_answer w h full mask other second ≡ Measured figures
     shift_first second figures answer =
@@ -119,7 +119,7 @@ module _ (w h full : ℕ) (mask : List ℕ) where
         alike frame second other second figures answer (record { of_first = framed; of_second = frames.of_second })
         (spread_shift mask frame other second up down (sites_of w h) (λ i l. seen_shift mask frame other up down i (drifted.offset i (inside i l))))
 
-    -- shift-second: of the second: by two swaps
+    -- shift_second: of the second: by two swaps
     pub shift_second : (first : List ℕ) (figures : PairFigures)
         → pair_answer w h full mask first frame ≡ Measured figures → pair_answer w h full mask first other ≡ Measured figures
     shift_second first figures answer = swap other first figures (shift_first first figures (swap first frame figures answer))

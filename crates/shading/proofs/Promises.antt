@@ -69,7 +69,7 @@ module _ (call : Asked) (totals counts numerators denominators refusals fails : 
       × Sole (judge_fails call long totals counts fails)
   only = (sole _, sole _, sole _, sole _, sole _)
 
-  -- paper-is: the paper's numbers are those of the answer
+  -- paper_is: the paper's numbers are those of the answer
   pub paper_is : paper_of (judge_answer call long totals counts) ≡ judge_paper call long totals counts
   unfolding judge_answer judge_paper
   paper_is = paper_told paper_of (judge_verdict call long totals counts) refl (λ r. refl)
@@ -92,7 +92,7 @@ module _ (call : Asked) (totals counts numerators denominators refusals fails : 
   unfolding judge_paper
   no_place = never_placed (judge_verdict call long totals counts) given refl
 
-  -- no-over: and none counts samples
+  -- no_over: and none counts samples
   pub no_over : over_of (judge_verdict call long totals counts) ≡ 0
   no_over = never_over (judge_verdict call long totals counts) given refl refl
 
@@ -198,7 +198,7 @@ module _ (call : Asked) (totals counts : List ℕ) (ratio colour green k : ℕ) 
   abbrev centre : ℕ
   centre = blocks_of call.width call.height
 
-  -- own-entries: its numbers are told by four entries of the table, its two planes' of the block and of the centre. Whatever the others
+  -- own_entries: its numbers are told by four entries of the table, its two planes' of the block and of the centre. Whatever the others
   -- hold, those of a block with 7 or 10 among them, changes nothing here (an entry that gives 11 refuses the whole call)
   pub own_entries : (totals' counts' : List ℕ)
       → SameAt totals counts totals' counts' (entry_at call.width call.height colour k)
@@ -242,11 +242,11 @@ module _ (call : Asked) (totals counts : List ℕ) (ratio colour green k : ℕ) 
   pub ten : (shade.number ≡ 10 → (Unsurveyed → ⊥) × Dim) × ((Unsurveyed → ⊥) → Dim → shade.number ≡ 10)
   ten = told_ten how
 
-  -- neither-applies: the number is 0 exactly where neither applies
+  -- neither_applies: the number is 0 exactly where neither applies
   pub neither_applies : (shade.number ≡ 0 → (Unsurveyed → ⊥) × (Dim → ⊥)) × ((Unsurveyed → ⊥) → (Dim → ⊥) → shade.number ≡ 0)
   neither_applies = told_none how
 
-  -- three-numbers: no other number is given
+  -- three_numbers: no other number is given
   pub three_numbers : (shade.number ≡ 0) ⊎ (shade.number ≡ 7) ⊎ (shade.number ≡ 10)
   three_numbers = told_one how
 
@@ -276,7 +276,7 @@ module _ (w h full black order low high : ℕ) (totals counts numerators denomin
   abbrev higher : Asked
   higher = asked w h full black order high
 
-  -- limits-same: changes neither the answer nor any of the other three buffers
+  -- limits_same: changes neither the answer nor any of the other three buffers
   pub limits_same : (judge_answer lower lent totals counts ≡ judge_answer higher lent totals counts)
       × (judge_numerators lower lent totals counts numerators ≡ judge_numerators higher lent totals counts numerators)
       × (judge_denominators lower lent totals counts denominators ≡ judge_denominators higher lent totals counts denominators)
@@ -290,14 +290,14 @@ module _ (w h full black order low high : ℕ) (totals counts numerators denomin
         same _ refusals (λ j. (at j).number),
       )
 
-  -- limits-pass: and fails no block and ratio that the lower one passes
+  -- limits_pass: and fails no block and ratio that the lower one passes
   pub limits_pass : (j : ℕ) → j < 2 * blocks_of w h
       → held (judge_fails lower lent totals counts fails) j ≡ 0 → held (judge_fails higher lent totals counts fails) j ≡ 0
   limits_pass = still_passes w h full black order low high lent totals counts some up most fails
 
 -- ---- the table of a mask and a frame, made by an accepted call of `shading_table` or recoded since (`table_of` and `afresh` of crate `blocks`)
 module _ (w h full : ℕ) (mask frame totals counts : List ℕ) (is : TableOf w h full mask frame totals counts) where
-  -- flat-window: where in each plane all surveyed samples are equal, every numerator is 0 in every accepted call with these sides
+  -- flat_window: where in each plane all surveyed samples are equal, every numerator is 0 in every accepted call with these sides
   pub flat_window : (s : ℕ → ℕ) → ((i : ℕ) → i < sites_of w h → surveyed (get_or mask i 0) ≡ true → get_or frame i 0 ≡ s (plane_of w i))
       → (scale black order limit : ℕ) (numerators denominators refusals fails : List ℕ)
       → let call = asked w h scale black order limit in
@@ -309,7 +309,7 @@ module _ (w h full : ℕ) (mask frame totals counts : List ℕ) (is : TableOf w 
       even_entry w h full mask frame totals counts is s same (entry_at w h plane k) (entry_below w h plane k last few)
       ∙ ap (λ (p : ℕ). s p * held counts (entry_at w h plane k)) (entry_plane_lem w h plane k last))
 
-  -- own-table: judged with its own sides and full scale it never gets 11, whatever the other numbers and the buffers' lengths
+  -- own_table: judged with its own sides and full scale it never gets 11, whatever the other numbers and the buffers' lengths
   pub own_table : (black order limit : ℕ) (long : Lengths) → (judge_paper (asked w h full black order limit) long totals counts).number ≡ 11 → ⊥
   own_table black order limit long e =
       eleven_only (asked w h full black order limit) long totals counts e (own_credible w h full mask frame totals counts is)

@@ -98,7 +98,7 @@ module _ (s : List ℕ) where
   unfolding job_paper fields_tests
   refused = refuses_counting (job_verdict s) given refl refl (two_counting (width_of s) (height_of s) (full_of s) (seen (mask_of s) (first_of s)) (seen (mask_of s) (second_of s))) (λ r e. rw e)
 
-  -- pairs-six: a 6 of the job is the pair's, with its place and its count, since the dark level sees a frame that the pair has accepted
+  -- pairs_six: a 6 of the job is the pair's, with its place and its count, since the dark level sees a frame that the pair has accepted
   pub pairs_six : (r : Refusal) → job_verdict s ≡ verdict.Refused r → r.number ≡ 6
       → pair_verdict (width_of s) (height_of s) (full_of s) (mask_of s) (first_of s) (second_of s) ≡ verdict.Refused r
   unfolding job_verdict fields_tests ◌⨟◌

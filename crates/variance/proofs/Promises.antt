@@ -78,7 +78,7 @@ module _ (w h full : ℕ) (mask : List ℕ) (s : Stack) where
     pub variance-whole : (i : ℕ) → i < sites_of w h → seen mask s.sums i * seen mask s.sums i ≤ s.frames * seen mask s.squares i
     variance-whole i l = ((answer_is w h full mask s p q x answer).0.possible i l).scatter
 
-    -- in-limits: the numerator is at most n × (k × full scale)², so below 2^53, and so is the denominator; both are exact as floats
+    -- in_limits: the numerator is at most n × (k × full scale)², so below 2^53, and so is the denominator; both are exact as floats
     pub variance_in_limits : let n = sum_to (sites_of w h) (one mask) in
         let k = s.frames in
         (p ≤ n * (k * full * (k * full))) × (p < 2 ^ 53) × (q < 2 ^ 53) × ExactFloat p × ExactFloat q
