@@ -1,45 +1,52 @@
 // The job program: one stream on standard input, four lines or one refusal on standard output.
 #![tactic(auto)]
 
+ghost use Rattle.std.specs.Prelude.{IfOk};
+ghost use Rattle.std.specs.Counts.{IsPrefixLen};
+
+use std::io;
+use std::io::Read;
 use stream::Answer;
 use verdict::Refusal;
 
-fn signed(z: i64) {
-    if z < 0 {
-        io::write_all(1, b"-");
+// Reads until the buffer is full or the input ends, and tells how many bytes were read. A read may give fewer bytes than there is room
+// for; each but the last gives one at least, so no more reads than bytes are needed.
+fn read_full<R: Read>(input: &mut R, buffer: &mut [u8]) -> io::Result<usize>
+    ensures { IfOk result (λ n. IsPrefixLen n buffer.new) }
+{
+    let mut filled = 0;
+    for _ in 0..buffer.len() {
+        let read = input.read(&mut buffer[filled..])?;
+        if read == 0 {
+            break;
+        }
+        filled += read;
     }
-    io::print_decimal(1, exact::size(z));
-}
-
-fn under(denominator: u64) {
-    io::write_all(1, b"/");
-    io::print_decimal(1, denominator);
-    io::write_all(1, b"\n");
+    Ok(filled)
 }
 
 // Only 6 has a count: there it is at least 1 (the law `refused`).
-fn count(over: u64) {
+fn count(rt: HostRuntime, over: u64) -> io::Result<()> {
     if over != 0 {
-        io::write_all(1, b" count ");
-        io::print_decimal(1, over);
+        print!(rt; " count {over}")?;
     }
+    Ok(())
 }
 
-fn refused(refusal: Refusal) {
-    io::write_all(1, b"refused ");
-    io::print_decimal(1, refusal.number);
-    io::write_all(1, b" at ");
-    io::print_decimal(1, refusal.place as u64);
-    count(refusal.over);
-    io::write_all(1, b"\n");
+fn refused(rt: HostRuntime, refusal: Refusal) -> io::Result<()> {
+    let number = refusal.number;
+    let place = refusal.place;
+    print!(rt; "refused {number} at {place}")?;
+    count(rt, refusal.over)?;
+    println!(rt; "")
 }
 
 // The first 14,369 bytes decide the answer (the law `decided`), so no more are read.
-fn main() {
+fn main(rt: HostRuntime) -> io::Result<()> {
     let mut input = [0u8; 14369];
-    let n = io::read_full(0, &mut input);
+    let n = read_full(&mut rt.stdin(), &mut input)?;
     match stream::job(&input[..n]) {
-        Answer::Refused(refusal) => refused(refusal),
+        Answer::Refused(refusal) => refused(rt, refusal),
         Answer::Figures {
             sites,
             p,
@@ -49,17 +56,10 @@ fn main() {
             dark,
             dark_over,
         } => {
-            io::write_all(1, b"sites ");
-            io::print_decimal(1, sites);
-            io::write_all(1, b"\nvariance ");
-            io::print_decimal(1, p);
-            under(q);
-            io::write_all(1, b"noise ");
-            io::print_decimal(1, r);
-            under(r_over);
-            io::write_all(1, b"dark ");
-            signed(dark);
-            under(dark_over);
+            println!(rt; "sites {sites}")?;
+            println!(rt; "variance {p}/{q}")?;
+            println!(rt; "noise {r}/{r_over}")?;
+            println!(rt; "dark {dark}/{dark_over}")
         }
     }
 }
