@@ -7,8 +7,7 @@
 //! `bench --smoke` times nothing: it runs each form once on each input and sees that all give the same answer and the
 //! same buffers.
 //!
-//! The library is what tools/native-lib makes: on x86-64 the archive of `rt staticlib`, on another machine the same
-//! proved module compiled by another back end.
+//! The library is what tools/native-lib makes: the archive of `rt lib`.
 
 mod calls;
 mod contest;
