@@ -14,7 +14,7 @@ use Rattle.laws.specs.Signed.{◌⊖◌}
 use Rattle.laws.proofs.Cases.{times_le}
 use Rattle.laws.proofs.Sums.{sum_none, sum_more, sum-le}
 use Rattle.laws.proofs.Signeds.{⊖-self}
-use Rattle.laws.proofs.Machine.{Is, nat_is, laid_is, less_is, add_is, add_fits}
+use Rattle.laws.proofs.Machine.{Is, laid_is, less_is, add_is, add_fits}
 use Rattle.window.specs.View.{surveyed, seen_at, seen, one}
 use Rattle.window.proofs.Views.{seen_is, one_is, seen_le, surveyed-few}
 

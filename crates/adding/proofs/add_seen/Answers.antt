@@ -1,10 +1,7 @@
-use Prim.Native.Nat.{ℕ, ◌+◌, ◌*◌, ◌-◌, ◌≤◌}
+use Prim.Native.Nat.{ℕ, ◌*◌}
 use mathlib.Core.Path.{◌≡◌, refl, sym, ap₂, ◌∙◌}
 use native.Mathlib.Omega.{arith}
-use lib.ListN.{length, get_or}
-use borrow.Author.Rules.{rules}
-use Rattle.laws.proofs.Tables.{Filling, filling_none, filling_done}
-use Rattle.laws.proofs.Cases.{times_le}
+use Rattle.laws.proofs.Tables.{filling_none, filling_done}
 use Rattle.window.proofs.Views.{seen_is}
 use Rattle.window.specs.View.{seen}
 use Rattle.adding.proofs.Turns.{has_room, one_added}

@@ -1,15 +1,9 @@
 -- `add_seen` is right because each turn adds to one sum and to one sum of squares what is seen at their site, and every sum has room.
-use Prim.Native.Nat.{ℕ, ◌+◌, ◌*◌, ◌-◌, ◌≤◌}
-use mathlib.Core.Path.{◌≡◌, refl, sym, ap₂, ◌∙◌}
-use native.Mathlib.Omega.{arith}
+use Prim.Native.Nat.{ℕ, ◌+◌, ◌-◌, ◌≤◌}
 use lib.ListN.{length, get_or}
-use borrow.Author.Rules.{rules}
-use Rattle.laws.proofs.Tables.{Filling, filling_none, filling_done}
-use Rattle.laws.proofs.Cases.{times_le}
-use Rattle.window.proofs.Views.{seen_is}
+use Rattle.laws.proofs.Tables.{Filling}
 use Rattle.window.specs.View.{seen}
-use Rattle.adding.proofs.Turns.{has_room, one_added}
-use Rattle.adding.specs.After.{renewed, squared}
+use Rattle.adding.specs.After.{squared}
 use Rattle.adding.proofs.add_seen.Given as goal
 
 abbrev pub invariant-loop-i : goal.invariant-loop-i

@@ -1,6 +1,5 @@
 -- `judge_add` is right because it asks the definition's tests in its order, and 11 of a whole stack.
 use mathlib.Core.Path.{◌∙◌}
-use borrow.Author.Rules.{rules}
 use Rattle.verdict.proofs.Verdicts.{then_of}
 use Rattle.refusals.proofs.Judges.{frame_of}
 use Rattle.adding.proofs.Adds.{judged}

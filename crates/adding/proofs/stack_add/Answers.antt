@@ -1,7 +1,6 @@
 -- `stack_add` is right because it adds only where nothing is refused, and there every sum has room.
 use mathlib.Core.Path.{◌≡◌, sym, ◌∙◌}
 use native.Mathlib.Omega.{arith}
-use borrow.Author.Rules.{rules}
 use Rattle.verdict.specs.declared.Verdict.TheVariants as verdict
 use Rattle.stack.specs.State.{Stack, stack_of}
 use Rattle.adding.specs.Add.{add_verdict}
@@ -22,14 +21,13 @@ known : (c : In-Clear)
 known c = accepted _ _ _ _ _ _ (clear c)
 
 pub add_seen-requires : goal.add_seen-requires
-add_seen-requires c = let a = known (goal.at.add_seen-requires c).In-Clear in
-    (
-      a.lent.framed ∙ sym a.lent.of.masked,
-      a.long.of_sums ∙ sym a.lent.of.masked,
-      a.long.of_squares ∙ sym a.lent.of.masked,
-      λ i l. sum_room _ _ _ _ _ _ a i l (omega (arith, c.slice_known-1.given i)),
-      λ i l. square_room _ _ _ _ _ _ a i l (omega (arith, c.slice_known-2-1.given i)),
-    )
+add_seen-requires c = let a = known (goal.at.add_seen-requires c).In-Clear in (
+  a.lent.framed ∙ sym a.lent.of.masked,
+  a.long.of_sums ∙ sym a.lent.of.masked,
+  a.long.of_squares ∙ sym a.lent.of.masked,
+  λ i l. sum_room _ _ _ _ _ _ a i l (omega (arith, c.slice_known-1.given i)),
+  λ i l. square_room _ _ _ _ _ _ a i l (omega (arith, c.slice_known-2-1.given i)),
+)
 
 pub widen-requires : goal.widen-requires
 widen-requires c = let a = known (goal.at.widen-requires c).In-Clear in

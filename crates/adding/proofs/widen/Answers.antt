@@ -1,12 +1,8 @@
-use Prim.Native.Nat.{ℕ, ◌-◌, ◌≤◌}
 use mathlib.Core.Path.{refl}
 use native.Mathlib.Omega.{arith}
-use lib.ListN.{length, get_or}
-use borrow.Author.Rules.{rules}
 use Rattle.laws.specs.Greatest.{lesser, greater}
-use Rattle.laws.proofs.Tables.{Filling, filling_none, filling_done}
-use Rattle.window.specs.View.{seen}
-use Rattle.adding.specs.After.{renewed, extreme_at}
+use Rattle.laws.proofs.Tables.{filling_none, filling_done}
+use Rattle.adding.specs.After.{renewed}
 use Rattle.adding.proofs.Turns.{one_widened}
 use Rattle.adding.proofs.widen.Goals as goal
 
@@ -15,10 +11,10 @@ loop-i-init c = (omega arith, filling_none _ _, filling_none _ _)
 
 pub loop-i-preserved : goal.loop-i-preserved
 loop-i-preserved c = let a = c.args in (
-      omega arith,
-      one_widened lesser a.frames a.mask.now a.frame.now c.loop-i.invariant.1 c.least_with.ensures (omega arith),
-      one_widened greater a.frames a.mask.now a.frame.now c.loop-i.invariant.2 c.greatest_with.ensures (omega arith),
-    )
+  omega arith,
+  one_widened lesser a.frames a.mask.now a.frame.now c.loop-i.invariant.1 c.least_with.ensures (omega arith),
+  one_widened greater a.frames a.mask.now a.frame.now c.loop-i.invariant.2 c.greatest_with.ensures (omega arith),
+)
 
 pub returns-clause-least : goal.returns-clause-least
 unfolding renewed

@@ -1,14 +1,10 @@
 -- `widen` is right because each turn makes a least and a greatest sample anew, from what is seen at their site.
 use Prim.Native.Nat.{ℕ, ◌-◌, ◌≤◌}
-use mathlib.Core.Path.{refl}
-use native.Mathlib.Omega.{arith}
 use lib.ListN.{length, get_or}
-use borrow.Author.Rules.{rules}
 use Rattle.laws.specs.Greatest.{lesser, greater}
-use Rattle.laws.proofs.Tables.{Filling, filling_none, filling_done}
+use Rattle.laws.proofs.Tables.{Filling}
 use Rattle.window.specs.View.{seen}
-use Rattle.adding.specs.After.{renewed, extreme_at}
-use Rattle.adding.proofs.Turns.{one_widened}
+use Rattle.adding.specs.After.{extreme_at}
 use Rattle.adding.proofs.widen.Given as goal
 
 abbrev pub invariant-loop-i : goal.invariant-loop-i

@@ -1,7 +1,6 @@
 -- `blinking_sites` is right because it counts only where nothing is refused, and there a spread has 16 bits.
 use mathlib.Core.Path.{◌≡◌, sym, ◌∙◌}
 use native.Mathlib.Omega.{arith}
-use borrow.Author.Rules.{rules}
 use Rattle.verdict.specs.declared.Verdict.TheVariants as verdict
 use Rattle.stack.specs.State.{stack_of}
 use Rattle.blinking.specs.Blinking.{blinking_verdict}

@@ -1,12 +1,8 @@
 -- `count_blinking` is right because each turn adds 1 at a site that blinks and 0 at any other, and a window has fewer sites than 16 bits can count.
-use Prim.Native.Nat.{ℕ, ◌+◌, ◌-◌, ◌≤◌}
-use mathlib.Core.Path.{◌≡◌, refl, ap, ap₂, ◌∙◌}
-use native.Mathlib.Omega.{arith}
+use Prim.Native.Nat.{◌-◌, ◌≤◌}
+use mathlib.Core.Path.{◌≡◌}
 use lib.ListN.{length}
-use borrow.Author.Rules.{rules}
 use Rattle.laws.specs.First.{count_to}
-use Rattle.laws.proofs.Firsts.{count_most}
-use Rattle.laws.proofs.Sums.{sum_none, sum_more}
 use Rattle.blinking.specs.Blinking.{blinks}
 use Rattle.blinking.proofs.count_blinking.Given as goal
 

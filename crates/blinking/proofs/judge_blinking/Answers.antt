@@ -1,7 +1,6 @@
 -- `judge_blinking` is right because it asks the definition's tests in its order, 11 of a whole window.
 use mathlib.Core.Bool.{◌||◌}
 use mathlib.Core.Path.{ap, ap₂, ◌∙◌}
-use borrow.Author.Rules.{rules}
 use Rattle.verdict.specs.Verdict.{refuse_if}
 use Rattle.verdict.proofs.Verdicts.{then_of}
 use Rattle.refusals.proofs.Judges.{mask_of_lem}

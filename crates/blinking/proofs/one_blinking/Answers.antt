@@ -1,6 +1,5 @@
 -- `one_blinking` is right because its branch is the definition's.
 use mathlib.Core.Bool.{true, false}
-use borrow.Author.Rules.{rules}
 use Rattle.blinking.proofs.Counts.{site_counts}
 use Rattle.blinking.proofs.one_blinking.Goals as goal
 

@@ -1,5 +1,4 @@
 -- `amend_entry` is right because it writes one entry, and past the end none.
-use borrow.Author.Rules.{rules}
 use Rattle.blocks.proofs.Entries.{amended-set, amended-past}
 use Rattle.blocks.proofs.amend_entry.Goals as goal
 

@@ -1,7 +1,6 @@
 -- `area` is right because the areas before the last are blocks, and where there is a block there is one across.
 use mathlib.Core.Path.{sym, ◌∙◌}
 use native.Mathlib.Omega.{arith}
-use borrow.Author.Rules.{rules}
 use borrow.Author.Tests.{lt-ltb, le-ltb}
 use Rattle.blocks.specs.Areas.{area_of}
 use Rattle.blocks.proofs.Areas.{some_across}

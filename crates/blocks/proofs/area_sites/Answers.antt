@@ -1,7 +1,6 @@
 -- `area_sites` is right because the areas before the last are blocks.
 use mathlib.Core.Path.{sym}
 use native.Mathlib.Omega.{arith}
-use borrow.Author.Rules.{rules}
 use Rattle.blocks.proofs.Areas.{block_sites, centre_sites}
 use Rattle.blocks.proofs.area_sites.Goals as goal
 

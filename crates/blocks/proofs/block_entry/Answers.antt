@@ -1,12 +1,6 @@
 -- `block_entry` is right because it divides the site's row and column of its plane by a block's sides.
-use Prim.Native.Nat.{◌+◌, ◌*◌, ◌/◌, ◌%◌, ◌≤◌, ◌<◌}
-use native.Mathlib.Nat.{mod-le}
 use native.Mathlib.Omega.{arith}
-use lib.Dec.{ltb}
-use borrow.Author.Rules.{rules}
-use borrow.Author.Tests.{ltb-true}
-use Rattle.laws.proofs.Cases.{and_true, times_le}
-use Rattle.window.proofs.Sides.{Sides, sides, sites-few}
+use Rattle.window.proofs.Sides.{Sides, sides}
 use Rattle.blocks.specs.Walk.{block_entry}
 use Rattle.blocks.proofs.block_entry.Goals as goal
 use Rattle.blocks.proofs.block_entry.Goals.{Start, Then-row-height}

@@ -1,9 +1,7 @@
 -- `centre_entry` is right because it looks where the site's row and column of its plane are in the centre.
-use Prim.Native.Nat.{◌+◌, ◌*◌, ◌/◌, ◌%◌, ◌≤◌}
+use Prim.Native.Nat.{◌/◌, ◌%◌}
 use native.Mathlib.Omega.{arith}
 use mathlib.Core.Path.{sym, ap, ◌∙◌}
-use borrow.Author.Rules.{rules}
-use Rattle.laws.proofs.Cases.{times_le}
 use Rattle.window.proofs.Sides.{Sides, sides}
 use Rattle.plane.specs.declared.PlaneBox.{PlaneBox}
 use Rattle.blocks.specs.Areas.{in_box}

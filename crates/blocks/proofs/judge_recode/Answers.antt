@@ -2,7 +2,6 @@
 use Prim.Native.Nat.{ℕ}
 use mathlib.Core.Bool.{Bool}
 use mathlib.Core.Path.{ap, ap₂, ◌∙◌}
-use borrow.Author.Rules.{rules}
 use lib.Dec.{leb}
 use Rattle.verdict.specs.Verdict.{refuse_if}
 use Rattle.verdict.proofs.Verdicts.{then_of}

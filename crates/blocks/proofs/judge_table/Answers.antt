@@ -1,7 +1,6 @@
 -- `judge_table` is right because it hands 4 of the table to the judge of a frame, and asks 9 after it.
 use mathlib.Core.Bool.{Bool}
 use mathlib.Core.Path.{refl, ap, ◌∙◌}
-use borrow.Author.Rules.{rules}
 use Rattle.verdict.specs.Verdict.{refuse_if}
 use Rattle.verdict.proofs.Verdicts.{then_of}
 use Rattle.refusals.proofs.Judges.{frame_of}

@@ -1,7 +1,6 @@
 -- `recode` is right because it amends totals by the sample, and counts by 1, each as the two codes show it.
 use mathlib.Core.Path.{◌∙◌}
 use native.Mathlib.Omega.{arith}
-use borrow.Author.Rules.{rules}
 use Rattle.blocks.proofs.Entries.{amended-found, recoded-set}
 use Rattle.blocks.proofs.recode.Goals as goal
 
@@ -12,9 +11,9 @@ returns-clause-mask_after c = let a = c.args in
 pub returns-clause-totals_after : goal.returns-clause-totals_after
 returns-clause-totals_after c = let a = c.args in
     c.amend_areas.ensures
-            ∙ amended-found a.width a.height a.site _ _ _ _ _ _ a.totals.now c.requires.0 c.requires.4 c.block_entry-block.ensures c.centre_entry-centre.ensures c.seen_at-was.ensures c.seen_at-is.ensures
+    ∙ amended-found a.width a.height a.site _ _ _ _ _ _ a.totals.now c.requires.0 c.requires.4 c.block_entry-block.ensures c.centre_entry-centre.ensures c.seen_at-was.ensures c.seen_at-is.ensures
 
 pub returns-clause-counts_after : goal.returns-clause-counts_after
 returns-clause-counts_after c = let a = c.args in
     c.amend_areas-2.ensures
-            ∙ amended-found a.width a.height a.site _ _ _ _ _ _ a.counts.now c.requires.0 c.requires.5 c.block_entry-block.ensures c.centre_entry-centre.ensures c.one_at.ensures.0 c.one_at-2.ensures.0
+    ∙ amended-found a.width a.height a.site _ _ _ _ _ _ a.counts.now c.requires.0 c.requires.5 c.block_entry-block.ensures c.centre_entry-centre.ensures c.one_at.ensures.0 c.one_at-2.ensures.0

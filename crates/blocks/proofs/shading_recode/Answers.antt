@@ -2,7 +2,6 @@
 use mathlib.Core.Path.{◌≡◌, sym, ◌∙◌}
 use native.Mathlib.Omega.{arith}
 use lib.ListN.{length}
-use borrow.Author.Rules.{rules}
 use Rattle.verdict.specs.declared.Verdict.TheVariants as verdict
 use Rattle.blocks.specs.Recode.{recode_verdict}
 use Rattle.blocks.proofs.Judged.{Recoding, recoding}

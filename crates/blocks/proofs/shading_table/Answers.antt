@@ -1,7 +1,6 @@
 -- `shading_table` is right because it writes only where nothing is refused.
 use mathlib.Core.Path.{◌≡◌, sym, ◌∙◌}
 use lib.ListN.{length}
-use borrow.Author.Rules.{rules}
 use Rattle.verdict.specs.declared.Verdict.TheVariants as verdict
 use Rattle.blocks.specs.Table.{table_verdict}
 use Rattle.blocks.proofs.Judged.{tabling}

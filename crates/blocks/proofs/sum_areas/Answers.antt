@@ -1,14 +1,10 @@
-use Prim.Native.Nat.{ℕ, ◌+◌, ◌-◌, ◌*◌, ◌≤◌}
-use mathlib.Core.Path.{◌≡◌, ap, ◌∙◌}
+use Prim.Native.Nat.{ℕ, ◌+◌, ◌*◌}
+use mathlib.Core.Path.{◌≡◌, ap}
 use native.Mathlib.Omega.{arith}
-use lib.ListN.{length}
-use borrow.Author.Rules.{rules}
-use Rattle.window.specs.View.{seen, one}
 use Rattle.window.proofs.Sides.{sides}
 use Rattle.plane.specs.declared.Pair.{Pair}
 use Rattle.blocks.specs.Areas.{entries_of}
-use Rattle.blocks.specs.Table.{entry_sum}
-use Rattle.blocks.proofs.Stores.{Stored, stored_none, stored_more, stored_done}
+use Rattle.blocks.proofs.Stores.{stored_more, stored_done}
 use Rattle.blocks.proofs.Told.{entry_summed}
 use Rattle.blocks.proofs.sum_areas.Goals as goal
 

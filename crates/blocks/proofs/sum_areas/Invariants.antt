@@ -1,16 +1,10 @@
 -- `sum_areas` is right because each turn stores what is seen in one more area, of all four planes.
-use Prim.Native.Nat.{ℕ, ◌+◌, ◌-◌, ◌*◌, ◌≤◌}
-use mathlib.Core.Path.{◌≡◌, ap, ◌∙◌}
-use native.Mathlib.Omega.{arith}
+use Prim.Native.Nat.{◌-◌, ◌*◌, ◌≤◌}
+use mathlib.Core.Path.{◌≡◌}
 use lib.ListN.{length}
-use borrow.Author.Rules.{rules}
 use Rattle.window.specs.View.{seen, one}
-use Rattle.window.proofs.Sides.{sides}
-use Rattle.plane.specs.declared.Pair.{Pair}
-use Rattle.blocks.specs.Areas.{entries_of}
 use Rattle.blocks.specs.Table.{entry_sum}
-use Rattle.blocks.proofs.Stores.{Stored, stored_none, stored_more, stored_done}
-use Rattle.blocks.proofs.Told.{entry_summed}
+use Rattle.blocks.proofs.Stores.{Stored}
 use Rattle.blocks.proofs.sum_areas.Given as goal
 
 abbrev pub invariant-loop-k : goal.invariant-loop-k

@@ -1,8 +1,7 @@
 -- `above_black` is right because 16 bits times 16 bits fit 32, and a difference of two such numbers fits an i64.
 use Prim.Native.Nat.{◌*◌, ◌≤◌}
 use native.Mathlib.Omega.{arith}
-use borrow.Author.Rules.{rules}
-use Rattle.laws.proofs.Machine.{nat_fits, less_fits, less_is}
+use Rattle.laws.proofs.Machine.{less_is}
 use Rattle.laws.proofs.Cases.{times_le}
 use Rattle.colour.specs.Colour.{above_black}
 use Rattle.colour.proofs.above_black.Goals as goal

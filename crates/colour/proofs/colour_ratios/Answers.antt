@@ -1,6 +1,5 @@
 -- `colour_ratios` is right because it sums the centres only of a frame that 1 to 6 do not refuse, and divides only where they are not refused either.
 use mathlib.Core.Path.{◌≡◌, sym, ◌∙◌}
-use borrow.Author.Rules.{rules}
 use native.Mathlib.Omega.{arith}
 use Rattle.verdict.specs.declared.Verdict.TheVariants as verdict
 use Rattle.colour.specs.Colour.{lent_verdict, colour_verdict, centres_seen}

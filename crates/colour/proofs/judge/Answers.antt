@@ -1,6 +1,5 @@
 -- `judge` is right because it hands the call's own 3 to the judge of a frame.
 use mathlib.Core.Path.{refl}
-use borrow.Author.Rules.{rules}
 use Rattle.verdict.proofs.Verdicts.{then_of}
 use Rattle.refusals.proofs.Judges.{frame_of}
 use Rattle.colour.specs.Colour.{lent_verdict}

@@ -1,7 +1,4 @@
 -- `not_above` is right because T is above 0 exactly where the samples' sum is above the black level for each site.
-use native.Mathlib.Omega.{arith}
-use borrow.Author.Rules.{rules}
-use Rattle.laws.proofs.Cases.{times_le}
 use Rattle.colour.proofs.Totals.{compared}
 use Rattle.colour.proofs.not_above.Goals as goal
 

@@ -1,6 +1,5 @@
 -- `over` is right because T has at most 32 bits and a sign, and a count 16, so T × c stays far inside an i64.
 use native.Mathlib.Omega.{arith}
-use borrow.Author.Rules.{rules}
 use Rattle.colour.proofs.Totals.{product_fits, product_is, ratio_is}
 use Rattle.colour.proofs.over.Goals as goal
 

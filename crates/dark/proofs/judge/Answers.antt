@@ -1,6 +1,5 @@
 -- `judge` is right because it asks the definition's tests in its order, and counts the surveyed sites of a whole mask.
 use mathlib.Core.Path.{refl, ◌∙◌}
-use borrow.Author.Rules.{rules}
 use Rattle.verdict.proofs.Verdicts.{then_of}
 use Rattle.refusals.proofs.Judges.{frame_of}
 use Rattle.dark.proofs.Levels.{judged}

@@ -2,8 +2,6 @@
 use mathlib.Core.Path.{sym, ◌∙◌}
 use native.Mathlib.Nat.{pos_of_ne-zero}
 use native.Mathlib.Omega.{arith}
-use lib.Dec.{le→leb}
-use lib.Ieee.{in_float}
 use borrow.Author.Tests.{lt-ltb, lt-leb, le-leb}
 use Rattle.exact.specs.Quotient.{castable, quotient_or_zero}
 use Rattle.exact.proofs.Quotients.{Ranged, ranged-quotient, zero_bits}

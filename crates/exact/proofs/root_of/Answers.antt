@@ -2,10 +2,9 @@ use Prim.Native.Nat.{◌+◌, ◌*◌, ◌/◌, ◌%◌, ◌^◌}
 use mathlib.Core.Path.{sym, ap, ◌∙◌}
 use native.Mathlib.Nat.{pos_of_ne-zero}
 use native.Mathlib.Omega.{arith}
-use lib.Count.{leading_le}
 use Rattle.exact.specs.Root.{root}
 use Rattle.exact.proofs.Roots.{is_root, root-zero}
-use Rattle.exact.proofs.Newton.{Stage, stage_first, stage_next, stage_done, guess, guess_above}
+use Rattle.exact.proofs.Newton.{Stage, stage_first, stage_next, stage_done, guess}
 use Rattle.exact.proofs.root_of.Goals as goal
 use Rattle.exact.proofs.root_of.Goals.{Else-x-eq0, In-loop-q}
 

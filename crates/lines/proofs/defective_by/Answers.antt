@@ -1,7 +1,6 @@
 -- `defective_by` is right because it writes only where nothing is refused, and then every mark.
 use mathlib.Core.Path.{◌≡◌, sym, ◌∙◌}
 use lib.ListN.{length}
-use borrow.Author.Rules.{rules}
 use Rattle.verdict.specs.declared.Verdict.TheVariants as verdict
 use Rattle.lines.proofs.Marking.{ready, refused_is, accepted_is}
 use Rattle.lines.specs.Marks.{lines_verdict}

@@ -1,14 +1,8 @@
-use Prim.Native.Nat.{ℕ, ◌-◌, ◌*◌, ◌/◌, ◌%◌, ◌≤◌, ◌<◌}
+use Prim.Native.Nat.{◌*◌}
 use mathlib.Core.Path.{◌≡◌}
-use mathlib.Core.Bool.{Bool}
-use native.Mathlib.Nat.{mod-lt}
 use native.Mathlib.Omega.{arith}
 use borrow.Author.Count.{below_more}
-use borrow.Author.Rules.{rules}
-use Rattle.laws.proofs.Tables.{Filling, filling_none, filling_more, filling_read}
-use Rattle.window.specs.View.{seen, one}
-use Rattle.lines.specs.Lines.{line_sum}
-use Rattle.lines.specs.Walk.{lined}
+use Rattle.laws.proofs.Tables.{filling_none, filling_more, filling_read}
 use Rattle.lines.proofs.gather.Goals as goal
 
 pub loop-i-init : goal.loop-i-init

@@ -2,11 +2,7 @@
 use Prim.Native.Nat.{ℕ, ◌-◌, ◌*◌, ◌/◌, ◌%◌, ◌≤◌, ◌<◌}
 use mathlib.Core.Path.{◌≡◌}
 use mathlib.Core.Bool.{Bool}
-use native.Mathlib.Nat.{mod-lt}
-use native.Mathlib.Omega.{arith}
-use borrow.Author.Count.{below_more}
-use borrow.Author.Rules.{rules}
-use Rattle.laws.proofs.Tables.{Filling, filling_none, filling_more, filling_read}
+use Rattle.laws.proofs.Tables.{Filling}
 use Rattle.window.specs.View.{seen, one}
 use Rattle.lines.specs.Lines.{line_sum}
 use Rattle.lines.specs.Walk.{lined}

@@ -1,6 +1,5 @@
 -- `line_after` is right because the line j after l is as far from the last line as l + j is.
 use native.Mathlib.Omega.{arith}
-use borrow.Author.Rules.{rules}
 use Rattle.lines.specs.Lines.{after}
 use Rattle.lines.proofs.line_after.Goals as goal
 

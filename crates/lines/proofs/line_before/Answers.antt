@@ -1,6 +1,5 @@
 -- `line_before` is right because the line j before l is as far from line 0 as l is from j.
 use native.Mathlib.Omega.{arith}
-use borrow.Author.Rules.{rules}
 use Rattle.lines.specs.Lines.{before}
 use Rattle.lines.proofs.line_before.Goals as goal
 

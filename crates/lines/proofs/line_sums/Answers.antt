@@ -1,6 +1,4 @@
 -- `line_sums` is right because a line is a box, and the buffers have the window's sites.
-use native.Mathlib.Omega.{arith}
-use borrow.Author.Rules.{rules}
 use Rattle.lines.specs.Walk.{lined}
 use Rattle.lines.proofs.Pools.{line-told}
 use Rattle.lines.proofs.line_sums.Goals as goal

@@ -1,14 +1,9 @@
-use Prim.Native.Nat.{ℕ, ◌+◌, ◌-◌, ◌*◌, ◌%◌, ◌≤◌, ◌<◌}
-use mathlib.Core.Path.{◌≡◌, refl, ◌∙◌}
-use native.Mathlib.Nat.{mod-lt, div-add-mod'}
+use Prim.Native.Nat.{◌*◌, ◌<◌}
+use mathlib.Core.Path.{refl, ◌∙◌}
 use native.Mathlib.Omega.{arith}
-use lib.ListN.{length}
-use borrow.Author.Rules.{rules}
-use Rattle.laws.proofs.Tables.{Filling, filling_none, filling_more, filling_done}
+use Rattle.laws.proofs.Tables.{filling_none, filling_more}
 use Rattle.window.specs.View.{seen, one}
-use Rattle.lines.proofs.Pools.{held_in, mark_at_lem}
-use Rattle.lines.specs.Lines.{mark_at}
-use Rattle.lines.specs.Walk.{lined}
+use Rattle.lines.proofs.Pools.{mark_at_lem}
 use Rattle.lines.proofs.mark.Goals as goal
 use Rattle.lines.proofs.mark.Goals.{In-loop-i}
 

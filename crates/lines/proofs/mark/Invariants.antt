@@ -1,13 +1,9 @@
 -- `mark` is right because each turn stores the mark of one more line, by what all lines were found to count and sum.
-use Prim.Native.Nat.{ℕ, ◌+◌, ◌-◌, ◌*◌, ◌%◌, ◌≤◌, ◌<◌}
-use mathlib.Core.Path.{◌≡◌, refl, ◌∙◌}
-use native.Mathlib.Nat.{mod-lt, div-add-mod'}
-use native.Mathlib.Omega.{arith}
+use Prim.Native.Nat.{◌-◌, ◌≤◌}
+use mathlib.Core.Path.{◌≡◌}
 use lib.ListN.{length}
-use borrow.Author.Rules.{rules}
-use Rattle.laws.proofs.Tables.{Filling, filling_none, filling_more, filling_done}
+use Rattle.laws.proofs.Tables.{Filling}
 use Rattle.window.specs.View.{seen, one}
-use Rattle.lines.proofs.Pools.{held_in, mark_at_lem}
 use Rattle.lines.specs.Lines.{mark_at}
 use Rattle.lines.specs.Walk.{lined}
 use Rattle.lines.proofs.mark.Given as goal

@@ -1,8 +1,6 @@
 -- `mark_of` is right because it compares the line with the pooled lines around it, by the definition's test.
 use mathlib.Core.Path.{sym, ◌∙◌}
 use mathlib.Core.Bool.{true, false}
-use native.Mathlib.Omega.{arith}
-use borrow.Author.Rules.{rules}
 use Rattle.lines.proofs.Pools.{marked}
 use Rattle.lines.proofs.mark_of.Goals as goal
 

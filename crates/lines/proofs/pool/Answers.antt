@@ -1,11 +1,10 @@
-use Prim.Native.Nat.{ℕ, ◌+◌, ◌-◌, ◌*◌, ◌≤◌, ◌<◌}
+use Prim.Native.Nat.{ℕ, ◌+◌, ◌≤◌, ◌<◌}
 use mathlib.Core.Path.{◌≡◌, ap₂, ◌∙◌}
 use native.Mathlib.Omega.{arith}
 use lib.ListN.{get_or}
-use borrow.Author.Rules.{rules}
 use Rattle.laws.proofs.Sums.{in_none, in_more}
 use Rattle.lines.specs.Lines.{before, after}
-use Rattle.lines.proofs.Pools.{pooled_to, pooled_is, before_in, after_in}
+use Rattle.lines.proofs.Pools.{pooled_is, before_in, after_in}
 use Rattle.lines.proofs.pool.Goals as goal
 use Rattle.lines.proofs.pool.Goals.{After-line_after, After-line_before}
 

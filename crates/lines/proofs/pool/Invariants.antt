@@ -1,12 +1,8 @@
 -- `pool` is right because each turn adds one more line on either side.
-use Prim.Native.Nat.{ℕ, ◌+◌, ◌-◌, ◌*◌, ◌≤◌, ◌<◌}
-use mathlib.Core.Path.{◌≡◌, ap₂, ◌∙◌}
-use native.Mathlib.Omega.{arith}
+use Prim.Native.Nat.{ℕ, ◌+◌, ◌-◌, ◌*◌, ◌≤◌}
+use mathlib.Core.Path.{◌≡◌}
 use lib.ListN.{get_or}
-use borrow.Author.Rules.{rules}
-use Rattle.laws.proofs.Sums.{in_none, in_more}
-use Rattle.lines.specs.Lines.{before, after}
-use Rattle.lines.proofs.Pools.{pooled_to, pooled_is, before_in, after_in}
+use Rattle.lines.proofs.Pools.{pooled_to}
 use Rattle.lines.proofs.pool.Given as goal
 
 abbrev pub invariant-loop-j : goal.invariant-loop-j

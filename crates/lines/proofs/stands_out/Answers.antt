@@ -1,11 +1,8 @@
 -- `stands_out` is right because it is the definition's test, and its products are small enough.
-use Prim.Native.Nat.{ℕ, ◌*◌, ◌≤◌}
+use Prim.Native.Nat.{ℕ, ◌*◌}
 use mathlib.Core.Path.{ap}
 use mathlib.Core.Bool.{◌&&◌}
-use native.Mathlib.Omega.{arith}
 use lib.Dec.{ltb}
-use borrow.Author.Rules.{rules}
-use Rattle.laws.proofs.Cases.{times_le}
 use Rattle.lines.specs.Lines.{defective}
 use Rattle.lines.proofs.stands_out.Goals as goal
 use Rattle.lines.proofs.stands_out.Goals.{Start}

@@ -1,8 +1,4 @@
 -- `figures_of` is right because n is from 2 to 16,384 and P below 2 ^ 53: no product overflows, no cast loses a bit, and each division, by a number above 0, is rounded once.
-use Prim.Native.Nat.{◌*◌, ◌≤◌}
-use native.Mathlib.Omega.{arith}
-use borrow.Author.Rules.{rules}
-use Rattle.laws.proofs.Cases.{times_le}
 use Rattle.pair.proofs.Answers.{figures_are}
 use Rattle.pair.proofs.figures_of.Goals as goal
 use Rattle.pair.proofs.figures_of.Goals.{Start}

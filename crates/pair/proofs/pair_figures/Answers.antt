@@ -1,6 +1,5 @@
 -- `pair_figures` is right because 1 to 6 are judged before the walk and 7 after it, which is the definition's order, and what passes is within the bounds of `figures_of`.
 use mathlib.Core.Path.{◌≡◌, sym, ap, ◌∙◌}
-use borrow.Author.Rules.{rules}
 use Rattle.verdict.specs.declared.Verdict.TheVariants as verdict
 use Rattle.refusals.specs.Judge.{frames_verdict}
 use Rattle.pair.specs.Figures.{figures_of}

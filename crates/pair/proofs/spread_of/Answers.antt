@@ -1,7 +1,6 @@
 -- `spread_of` is right because the sum of d is the difference of the two frames' sums, and its square is at most what it is taken off.
 use Prim.Native.Nat.{◌*◌, ◌^◌, ◌<◌, ◌≤◌}
 use native.Mathlib.Omega.{arith}
-use borrow.Author.Rules.{rules}
 use Rattle.pair.proofs.Spreads.{enough, spread_from, product_fits}
 use Rattle.pair.proofs.spread_of.Goals as goal
 use Rattle.pair.proofs.spread_of.Goals.{After-apart-d, After-sums-t}

@@ -1,10 +1,6 @@
-use Prim.Native.Nat.{◌-◌, ◌≤◌}
-use mathlib.Core.Path.{◌≡◌}
 use native.Mathlib.Omega.{arith}
-use lib.ListN.{length}
 use borrow.Author.Rules.{rules}
-use Rattle.window.proofs.Views.{seen_le}
-use Rattle.pair.proofs.Walk.{Walked, walk_begins, walk_more, walk_ends}
+use Rattle.pair.proofs.Walk.{walk_begins, walk_more, walk_ends}
 use Rattle.pair.proofs.sums.Goals as goal
 use Rattle.pair.proofs.sums.Goals.{After-seen_at}
 

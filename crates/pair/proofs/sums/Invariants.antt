@@ -1,11 +1,8 @@
 -- `sums` is right because each turn adds to every sum what is seen at one more site.
 use Prim.Native.Nat.{◌-◌, ◌≤◌}
 use mathlib.Core.Path.{◌≡◌}
-use native.Mathlib.Omega.{arith}
 use lib.ListN.{length}
-use borrow.Author.Rules.{rules}
-use Rattle.window.proofs.Views.{seen_le}
-use Rattle.pair.proofs.Walk.{Walked, walk_begins, walk_more, walk_ends}
+use Rattle.pair.proofs.Walk.{Walked}
 use Rattle.pair.proofs.sums.Given as goal
 
 abbrev pub invariant-loop-i : goal.invariant-loop-i

@@ -1,9 +1,6 @@
-use Prim.Native.Nat.{◌-◌, ◌<◌}
+use Prim.Native.Nat.{◌<◌}
 use native.Mathlib.Omega.{arith}
-use borrow.Author.Rules.{rules}
-use Rattle.laws.specs.Table.{held}
-use Rattle.laws.proofs.Cases.{times_le}
-use Rattle.pattern.proofs.Totals.{Adding, line_in, adding_none, adding_more, adding_done, adding_le}
+use Rattle.pattern.proofs.Totals.{line_in, adding_none, adding_more, adding_done, adding_le}
 use Rattle.pattern.proofs.add_row.Goals as goal
 use Rattle.pattern.proofs.add_row.Goals.{After-line_of-line}
 

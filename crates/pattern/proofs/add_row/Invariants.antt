@@ -1,10 +1,7 @@
 -- `add_row` is right because each turn adds one site of the row to the total of the line that it is on, and leaves the others.
-use Prim.Native.Nat.{◌-◌, ◌<◌}
-use native.Mathlib.Omega.{arith}
-use borrow.Author.Rules.{rules}
+use Prim.Native.Nat.{◌-◌}
 use Rattle.laws.specs.Table.{held}
-use Rattle.laws.proofs.Cases.{times_le}
-use Rattle.pattern.proofs.Totals.{Adding, line_in, adding_none, adding_more, adding_done, adding_le}
+use Rattle.pattern.proofs.Totals.{Adding}
 use Rattle.pattern.proofs.add_row.Given as goal
 
 abbrev pub invariant-loop-x : goal.invariant-loop-x

@@ -1,8 +1,6 @@
 -- `deviation_at` is right because the lines i - 5 to i - 1 and i + 1 to i + 5 are the ten of the definition.
-use Prim.Native.Nat.{◌≤◌}
 use mathlib.Core.Path.{◌∙◌}
 use native.Mathlib.Omega.{arith}
-use borrow.Author.Rules.{rules}
 use Rattle.laws.specs.Table.{held}
 use Rattle.pattern.proofs.Figuring.{deviation_is}
 use Rattle.pattern.proofs.deviation_at.Goals as goal

@@ -1,7 +1,6 @@
 -- `five` is right because it adds the five totals in their order, and each leaves room.
 use Prim.Native.Nat.{ℕ, ◌+◌, ◌≤◌}
 use native.Mathlib.Omega.{arith}
-use borrow.Author.Rules.{rules}
 use Rattle.laws.specs.Table.{held}
 use Rattle.pattern.proofs.Figuring.{five_is}
 use Rattle.pattern.proofs.five.Goals as goal

@@ -2,7 +2,6 @@
 use Prim.Native.Nat.{ℕ}
 use mathlib.Core.Path.{ap, ◌∙◌}
 use lib.Dec.{ltb}
-use borrow.Author.Rules.{rules}
 use Rattle.verdict.specs.Verdict.{refuse_if}
 use Rattle.verdict.proofs.Verdicts.{then_of}
 use Rattle.refusals.proofs.Judges.{mask_of_lem}

@@ -1,12 +1,8 @@
-use Prim.Native.Nat.{ℕ, ◌+◌, ◌-◌, ◌*◌, ◌≤◌}
-use mathlib.Core.Path.{◌≡◌, refl, ap, ◌∙◌}
+use mathlib.Core.Path.{refl}
 use native.Mathlib.Omega.{arith}
-use borrow.Author.Rules.{rules}
 use Rattle.laws.proofs.Sums.{sum_none}
-use Rattle.laws.specs.Sum.{sum_to}
 use Rattle.laws.specs.Table.{held}
 use Rattle.pattern.proofs.Figuring.{level_more}
-use Rattle.pattern.specs.Figures.{step_of}
 use Rattle.pattern.proofs.level.Goals as goal
 
 pub loop-i-init : goal.loop-i-init

@@ -1,12 +1,8 @@
 -- `level` is right because each turn adds the squared step from one total to the next.
-use Prim.Native.Nat.{ℕ, ◌+◌, ◌-◌, ◌*◌, ◌≤◌}
-use mathlib.Core.Path.{◌≡◌, refl, ap, ◌∙◌}
-use native.Mathlib.Omega.{arith}
-use borrow.Author.Rules.{rules}
-use Rattle.laws.proofs.Sums.{sum_none}
+use Prim.Native.Nat.{◌-◌, ◌*◌, ◌≤◌}
+use mathlib.Core.Path.{◌≡◌}
 use Rattle.laws.specs.Sum.{sum_to}
 use Rattle.laws.specs.Table.{held}
-use Rattle.pattern.proofs.Figuring.{level_more}
 use Rattle.pattern.specs.Figures.{step_of}
 use Rattle.pattern.proofs.level.Given as goal
 

@@ -1,10 +1,7 @@
 -- `max` is right because it begins with the first deviation and each turn takes the greater of what it has and the next.
-use Prim.Native.Nat.{ℕ, ◌-◌, ◌≤◌}
-use mathlib.Core.Path.{◌≡◌, refl, ap, ap₂, ◌∙◌}
-use native.Mathlib.Omega.{arith}
-use borrow.Author.Rules.{rules}
-use Rattle.laws.proofs.Greatests.{greatest_one, greatest_more}
-use Rattle.laws.specs.Greatest.{greater, greatest_in}
+use Prim.Native.Nat.{◌-◌, ◌≤◌}
+use mathlib.Core.Path.{◌≡◌}
+use Rattle.laws.specs.Greatest.{greatest_in}
 use Rattle.laws.specs.Table.{held}
 use Rattle.pattern.specs.Figures.{deviation}
 use Rattle.pattern.proofs.max.Given as goal

@@ -1,13 +1,11 @@
-use Prim.Native.Nat.{ℕ, ◌-◌, ◌*◌, ◌≤◌}
+use Prim.Native.Nat.{ℕ, ◌*◌, ◌≤◌}
 use mathlib.Core.Path.{◌≡◌, refl, ap, ◌∙◌}
 use native.Mathlib.Omega.{arith}
-use borrow.Author.Rules.{rules}
 use Rattle.laws.specs.Table.{held, tabulate}
 use Rattle.laws.specs.Sum.{sum_to}
-use Rattle.laws.proofs.Cases.{times_le}
 use Rattle.pattern.specs.Walk.{with_row, Possible}
 use Rattle.pattern.proofs.Measures.{row_ready, totals_ready, totals_figures}
-use Rattle.pattern.proofs.Totals.{passed, row_more, side_le}
+use Rattle.pattern.proofs.Totals.{passed, row_more}
 use Rattle.pattern.proofs.measure.Goals as goal
 use Rattle.pattern.proofs.measure.Goals.{After-line_of}
 

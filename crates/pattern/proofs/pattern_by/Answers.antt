@@ -1,6 +1,5 @@
 -- `pattern_by` is right because it measures only what nothing refuses, and then every sum is seen.
 use mathlib.Core.Path.{◌≡◌, sym, ◌∙◌}
-use borrow.Author.Rules.{rules}
 use Rattle.verdict.specs.declared.Verdict.TheVariants as verdict
 use Rattle.pattern.proofs.Judges.{Clean, clean, figures_seen, refused_is, accepted_is}
 use Rattle.pattern.specs.Pattern.{pattern_verdict}

@@ -1,12 +1,6 @@
-use Prim.Native.Nat.{ℕ, ◌-◌, ◌≤◌}
-use mathlib.Core.Path.{◌≡◌, refl, sym, ap, ◌∙◌}
+use mathlib.Core.Path.{refl}
 use native.Mathlib.Omega.{arith}
-use lib.ListN.{length}
-use borrow.Author.Rules.{rules}
-use Rattle.laws.proofs.Firsts.{some_none, some_more}
-use Rattle.laws.specs.First.{some_to}
-use Rattle.laws.specs.Table.{held}
-use Rattle.window.specs.View.{above}
+use Rattle.laws.proofs.Firsts.{some_more}
 use Rattle.pattern.proofs.some_above.Goals as goal
 
 pub loop-i-preserved : goal.loop-i-preserved

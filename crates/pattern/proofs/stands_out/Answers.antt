@@ -2,8 +2,7 @@
 use mathlib.Core.Path.{ap, ◌∙◌}
 use native.Mathlib.Omega.{arith}
 use lib.IntN.{nat_abs}
-use borrow.Author.Rules.{rules}
-use Rattle.laws.proofs.Machine.{less_fits, less_is}
+use Rattle.laws.proofs.Machine.{less_is}
 use Rattle.laws.proofs.Signeds.{⊖-size}
 use Rattle.pattern.specs.Figures.{stands_out}
 use Rattle.pattern.proofs.stands_out.Goals as goal

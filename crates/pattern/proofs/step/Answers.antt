@@ -1,7 +1,6 @@
 -- `step` is right because it squares how far apart the two totals are.
 use mathlib.Core.Path.{refl}
 use native.Mathlib.Omega.{arith}
-use borrow.Author.Rules.{rules}
 use Rattle.pattern.proofs.Figuring.{step_le}
 use Rattle.pattern.proofs.step.Goals as goal
 

@@ -1,6 +1,5 @@
 -- `box_sums` is right because the part of a box that lies inside the plane is all that is seen of it.
 use native.Mathlib.Omega.{arith}
-use borrow.Author.Rules.{rules}
 use Rattle.plane.proofs.Planes.{both_whole, sums_none, sums-told, sums-low}
 use Rattle.plane.proofs.box_sums.Goals as goal
 

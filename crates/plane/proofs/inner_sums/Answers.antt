@@ -1,10 +1,8 @@
 -- `inner_sums` is right because a plane's sites are equally spaced along its rows and down its columns.
-use Prim.Native.Nat.{◌+◌, ◌*◌, ◌≤◌}
 use mathlib.Core.Path.{◌∙◌}
 use native.Mathlib.Omega.{arith}
 use Rattle.window.specs.View.{one, seen}
-use Rattle.plane.specs.Plane.{row_parity, column_parity}
-use Rattle.plane.proofs.Planes.{site_in, stepped, stepped_down, start_low, by_rows, by_columns}
+use Rattle.plane.proofs.Planes.{site_in, stepped, stepped_down, by_columns}
 use Rattle.plane.proofs.inner_sums.Goals as goal
 use Rattle.plane.proofs.inner_sums.Goals.{After-shared_slice_known-2-1}
 

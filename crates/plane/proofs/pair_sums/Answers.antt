@@ -2,7 +2,6 @@
 use Prim.Native.Nat.{◌+◌, ◌*◌, ◌%◌, ◌≤◌}
 use mathlib.Core.Path.{ap₂}
 use native.Mathlib.Omega.{arith}
-use borrow.Author.Rules.{rules}
 use Rattle.laws.proofs.Cases.{times_le}
 use Rattle.plane.specs.Plane.{pair}
 use Rattle.plane.proofs.Planes.{site_in, paired, both_whole, sums_none, sums_placed}

@@ -1,9 +1,6 @@
 -- `run_pair` is right because each turn adds what is seen at one more site of each of the two runs.
-use Prim.Native.Nat.{ℕ, ◌+◌, ◌-◌, ◌*◌, ◌≤◌, ◌<◌}
-use mathlib.Core.Path.{◌≡◌}
-use native.Mathlib.Omega.{arith}
-use lib.ListN.{length}
-use Rattle.plane.proofs.Runs.{Run, run_none, run_more, run_done}
+use Prim.Native.Nat.{ℕ, ◌+◌, ◌-◌, ◌*◌, ◌≤◌}
+use Rattle.plane.proofs.Runs.{Run}
 use Rattle.plane.proofs.run_pair.Given as goal
 
 abbrev pub invariant-loop-v : goal.invariant-loop-v

@@ -1,7 +1,5 @@
-use Prim.Native.Nat.{ℕ, ◌+◌, ◌-◌, ◌*◌, ◌≤◌, ◌<◌}
 use native.Mathlib.Omega.{arith}
-use lib.ListN.{length}
-use Rattle.plane.proofs.Runs.{Run, run_none, run_more, run_done}
+use Rattle.plane.proofs.Runs.{run_none, run_more}
 use Rattle.plane.proofs.run_sums.Goals as goal
 use Rattle.plane.proofs.run_sums.Goals.{In-loop-v}
 

@@ -1,8 +1,6 @@
 -- `run_sums` is right because each turn adds what is seen at one more site of the run.
-use Prim.Native.Nat.{ℕ, ◌+◌, ◌-◌, ◌*◌, ◌≤◌, ◌<◌}
-use native.Mathlib.Omega.{arith}
-use lib.ListN.{length}
-use Rattle.plane.proofs.Runs.{Run, run_none, run_more, run_done}
+use Prim.Native.Nat.{ℕ, ◌+◌, ◌-◌, ◌*◌, ◌≤◌}
+use Rattle.plane.proofs.Runs.{Run}
 use Rattle.plane.proofs.run_sums.Given as goal
 
 abbrev pub invariant-loop-v : goal.invariant-loop-v

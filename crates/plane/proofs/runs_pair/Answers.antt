@@ -1,8 +1,5 @@
-use Prim.Native.Nat.{ℕ, ◌+◌, ◌-◌, ◌*◌, ◌≤◌}
-use mathlib.Core.Path.{◌≡◌}
 use native.Mathlib.Omega.{arith}
-use Rattle.laws.proofs.Cases.{times_le}
-use Rattle.plane.proofs.Runs.{Runs, runs_none, runs_more, runs_done}
+use Rattle.plane.proofs.Runs.{runs_none, runs_more}
 use Rattle.plane.proofs.runs_pair.Goals as goal
 use Rattle.plane.proofs.runs_pair.Goals.{In-loop-u}
 
@@ -14,8 +11,8 @@ run_pair-run-requires-clause-by_index c = λ v l. c.requires.by_index c.loop-u.u
 
 pub loop-u-preserved : goal.loop-u-preserved
 loop-u-preserved c = (
-      omega arith,
-      omega arith,
-      runs_more _ _ c.loop-u.invariant.2 c.loop-u.invariant.0 c.run_pair-run.ensures.count_value c.run_pair-run.ensures.total_value c.with_run-even.ensures,
-      runs_more _ _ c.loop-u.invariant.3 c.loop-u.invariant.0 c.run_pair-run.ensures.count_value_2 c.run_pair-run.ensures.total_value_2 c.with_run-odd.ensures,
-    )
+  omega arith,
+  omega arith,
+  runs_more _ _ c.loop-u.invariant.2 c.loop-u.invariant.0 c.run_pair-run.ensures.count_value c.run_pair-run.ensures.total_value c.with_run-even.ensures,
+  runs_more _ _ c.loop-u.invariant.3 c.loop-u.invariant.0 c.run_pair-run.ensures.count_value_2 c.run_pair-run.ensures.total_value_2 c.with_run-odd.ensures,
+)

@@ -1,9 +1,6 @@
 -- `runs_pair` is right because each turn adds one more run of each of the two planes.
 use Prim.Native.Nat.{ℕ, ◌+◌, ◌-◌, ◌*◌, ◌≤◌}
-use mathlib.Core.Path.{◌≡◌}
-use native.Mathlib.Omega.{arith}
-use Rattle.laws.proofs.Cases.{times_le}
-use Rattle.plane.proofs.Runs.{Runs, runs_none, runs_more, runs_done}
+use Rattle.plane.proofs.Runs.{Runs}
 use Rattle.plane.proofs.runs_pair.Given as goal
 
 abbrev pub invariant-loop-u : goal.invariant-loop-u

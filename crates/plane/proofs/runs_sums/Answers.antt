@@ -1,7 +1,5 @@
-use Prim.Native.Nat.{ℕ, ◌+◌, ◌-◌, ◌*◌, ◌≤◌}
 use native.Mathlib.Omega.{arith}
-use Rattle.laws.proofs.Cases.{times_le}
-use Rattle.plane.proofs.Runs.{Runs, runs_none, runs_more, runs_done}
+use Rattle.plane.proofs.Runs.{runs_none, runs_more}
 use Rattle.plane.proofs.runs_sums.Goals as goal
 use Rattle.plane.proofs.runs_sums.Goals.{In-loop-u}
 

@@ -1,11 +1,8 @@
 -- `fill` is right because each turn stores the four samples of one group, and whole groups are all there is.
 use Prim.Native.Nat.{◌*◌, ◌/◌, ◌-◌, ◌≤◌}
-use mathlib.Core.Path.{◌≡◌, refl, ◌∙◌}
-use native.Mathlib.Omega.{arith}
-use lib.ListN.{length, length-set}
-use borrow.Author.Rules.{rules}
-use Rattle.laws.proofs.Tables.{Filling, filling_none, filling_done}
-use Rattle.raw.proofs.Samples.{fours, four, in_group}
+use mathlib.Core.Path.{◌≡◌}
+use lib.ListN.{length}
+use Rattle.laws.proofs.Tables.{Filling}
 use Rattle.raw.specs.Packed.{sample10}
 use Rattle.raw.proofs.fill.Given as goal
 

@@ -1,5 +1,4 @@
 -- `judge` is right because it asks the definition's tests in its order, of sites that are counted only where the sides are legal.
-use borrow.Author.Rules.{rules}
 use Rattle.raw.specs.Unpack.{unpack_verdict}
 use Rattle.raw.proofs.judge.Goals as goal
 

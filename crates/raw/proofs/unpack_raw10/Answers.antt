@@ -1,6 +1,5 @@
 -- `unpack_raw10` is right because it writes only where nothing is refused, and then every sample.
 use mathlib.Core.Path.{sym, ◌∙◌}
-use borrow.Author.Rules.{rules}
 use Rattle.raw.proofs.Unpacks.{accepted, refused_is, accepted_is}
 use Rattle.raw.proofs.unpack_raw10.Goals as goal
 

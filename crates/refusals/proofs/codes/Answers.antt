@@ -1,8 +1,6 @@
 -- `codes` is right because the search is of all h rows of w where the mask holds them, and of nothing otherwise.
 use mathlib.Core.Path.{sym, ◌∙◌}
 use lib.ListN.{length}
-use borrow.Author.Rules.{rules}
-use borrow.Author.Tests.{not-true}
 use Rattle.window.proofs.Walks.{Whole, walked_some}
 use Rattle.refusals.proofs.Searches.{none_walked, none_found, found}
 use Rattle.refusals.proofs.codes.Goals as goal

@@ -1,9 +1,5 @@
-use Prim.Native.Nat.{◌*◌, ◌-◌, ◌<◌}
-use native.Mathlib.Omega.{arith}
-use borrow.Author.Rules.{rules}
 use borrow.Author.Tests.{lt-ltb, le-ltb}
-use Rattle.window.specs.View.{bad_code}
-use Rattle.refusals.proofs.Searches.{AtRow, AtSite, search_begins, row_begins, site_in, site_passed, row_passed, search_ends, search_stops}
+use Rattle.refusals.proofs.Searches.{search_begins, site_passed, search_stops}
 use Rattle.refusals.proofs.first_bad_code.Goals as goal
 use Rattle.refusals.proofs.first_bad_code.Goals.{In-loop-x}
 

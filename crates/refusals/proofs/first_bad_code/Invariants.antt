@@ -1,10 +1,7 @@
 -- `first_bad_code` is right because every site passed has a code of at most 3: it stops at the first that has not, or past the last.
-use Prim.Native.Nat.{◌*◌, ◌-◌, ◌<◌}
-use native.Mathlib.Omega.{arith}
-use borrow.Author.Rules.{rules}
-use borrow.Author.Tests.{lt-ltb, le-ltb}
+use Prim.Native.Nat.{◌-◌}
 use Rattle.window.specs.View.{bad_code}
-use Rattle.refusals.proofs.Searches.{AtRow, AtSite, search_begins, row_begins, site_in, site_passed, row_passed, search_ends, search_stops}
+use Rattle.refusals.proofs.Searches.{AtRow, AtSite}
 use Rattle.refusals.proofs.first_bad_code.Given as goal
 
 abbrev pub invariant-loop-x : goal.invariant-loop-x

@@ -1,12 +1,9 @@
-use Prim.Native.Nat.{◌*◌, ◌-◌, ◌<◌}
 use mathlib.Core.Path.{◌≡◌, sym, ap, ◌∙◌}
-use native.Mathlib.Omega.{arith}
 use lib.Dec.{ltb}
-use borrow.Author.Rules.{rules}
 use borrow.Author.Tests.{lt-ltb, le-ltb}
-use Rattle.window.specs.View.{above, seen}
+use Rattle.window.specs.View.{seen}
 use Rattle.window.proofs.Views.{seen_is}
-use Rattle.refusals.proofs.Searches.{AtRow, AtSite, search_begins, row_begins, site_in, site_passed, row_passed, search_ends, search_stops}
+use Rattle.refusals.proofs.Searches.{search_begins, site_passed, search_stops}
 use Rattle.refusals.proofs.first_over.Goals as goal
 use Rattle.refusals.proofs.first_over.Goals.{After-wide, In-loop-column}
 

@@ -1,13 +1,7 @@
 -- `first_over` is right because nothing that is seen at a site passed is above full scale: it stops at the first that is, or past the last.
-use Prim.Native.Nat.{◌*◌, ◌-◌, ◌<◌}
-use mathlib.Core.Path.{◌≡◌, sym, ap, ◌∙◌}
-use native.Mathlib.Omega.{arith}
-use lib.Dec.{ltb}
-use borrow.Author.Rules.{rules}
-use borrow.Author.Tests.{lt-ltb, le-ltb}
+use Prim.Native.Nat.{◌-◌}
 use Rattle.window.specs.View.{above, seen}
-use Rattle.window.proofs.Views.{seen_is}
-use Rattle.refusals.proofs.Searches.{AtRow, AtSite, search_begins, row_begins, site_in, site_passed, row_passed, search_ends, search_stops}
+use Rattle.refusals.proofs.Searches.{AtRow, AtSite}
 use Rattle.refusals.proofs.first_over.Given as goal
 
 abbrev pub invariant-loop-column : goal.invariant-loop-column

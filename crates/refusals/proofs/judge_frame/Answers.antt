@@ -1,6 +1,5 @@
 -- `judge_frame` is right because it asks 6 after 1 to 5, of buffers that have the window's sites.
 use mathlib.Core.Path.{refl, ◌∙◌}
-use borrow.Author.Rules.{rules}
 use Rattle.verdict.proofs.Verdicts.{then_of}
 use Rattle.window.specs.View.{seen}
 use Rattle.refusals.proofs.Ranges.{samples_of_lem}

@@ -1,8 +1,6 @@
 -- `judge_frames` is right because it asks 6 of the first frame before that of the second, with the count of both, after 1 to 5 and 4 of both.
 use Prim.Native.Nat.{ℕ, ◌+◌}
 use mathlib.Core.Path.{refl, ap₂, ◌∙◌}
-use native.Mathlib.Omega.{arith}
-use borrow.Author.Rules.{rules}
 use Rattle.verdict.proofs.Verdicts.{then_of}
 use Rattle.refusals.proofs.Judges.{mask_of_lem}
 use Rattle.refusals.proofs.Frames.{frames_judged}

@@ -1,6 +1,5 @@
 -- `judge_mask` is right because it asks the definition's tests in its order, and 5 of a mask of another length comes after 4.
 use mathlib.Core.Path.{refl, ◌∙◌}
-use borrow.Author.Rules.{rules}
 use Rattle.verdict.proofs.Verdicts.{then_of}
 use Rattle.refusals.proofs.Judges.{mask_judged}
 use Rattle.refusals.proofs.judge_mask.Goals as goal

@@ -3,8 +3,6 @@ use Prim.Native.Nat.{ℕ}
 use mathlib.Core.Path.{◌≡◌, sym, ap, ◌∙◌}
 use native.Mathlib.Omega.{arith}
 use lib.ListN.{length}
-use borrow.Author.Rules.{rules}
-use borrow.Author.Tests.{not-true}
 use Rattle.laws.specs.First.{count_to}
 use Rattle.laws.proofs.Firsts.{nowhere_counted}
 use Rattle.laws.proofs.Sums.{sum_none}

@@ -1,6 +1,5 @@
 -- `ranged` is right because its tests are the definition's.
 use mathlib.Core.Path.{sym, ◌∙◌}
-use borrow.Author.Rules.{rules}
 use borrow.Author.Tests.{eq-eqb, ne_eqb}
 use Rattle.refusals.specs.Walk.{ranged}
 use Rattle.refusals.proofs.ranged.Goals as goal

@@ -1,5 +1,4 @@
 -- `shape` is right because it asks the definition's two tests in its order.
-use borrow.Author.Rules.{rules}
 use Rattle.refusals.specs.Judge.{shape_of}
 use Rattle.refusals.proofs.shape.Goals as goal
 

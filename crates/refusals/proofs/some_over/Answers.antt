@@ -1,13 +1,8 @@
-use Prim.Native.Nat.{ℕ, ◌-◌, ◌≤◌}
 use mathlib.Core.Bool.{◌||◌}
-use mathlib.Core.Path.{◌≡◌, refl, sym, ap, ap₂, ◌∙◌}
+use mathlib.Core.Path.{refl, sym, ap, ap₂, ◌∙◌}
 use native.Mathlib.Omega.{arith}
 use lib.Dec.{ltb}
-use lib.ListN.{length}
-use borrow.Author.Rules.{rules}
-use Rattle.laws.specs.First.{some_to}
-use Rattle.laws.proofs.Firsts.{some_none, some_more}
-use Rattle.window.specs.View.{above, seen}
+use Rattle.laws.proofs.Firsts.{some_more}
 use Rattle.window.proofs.Views.{seen_is}
 use Rattle.refusals.proofs.some_over.Goals as goal
 

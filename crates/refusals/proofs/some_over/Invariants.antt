@@ -1,15 +1,9 @@
 -- `some_over` is right because each turn asks the test of one site more.
-use Prim.Native.Nat.{ℕ, ◌-◌, ◌≤◌}
-use mathlib.Core.Bool.{◌||◌}
-use mathlib.Core.Path.{◌≡◌, refl, sym, ap, ap₂, ◌∙◌}
-use native.Mathlib.Omega.{arith}
-use lib.Dec.{ltb}
+use Prim.Native.Nat.{◌-◌, ◌≤◌}
+use mathlib.Core.Path.{◌≡◌}
 use lib.ListN.{length}
-use borrow.Author.Rules.{rules}
 use Rattle.laws.specs.First.{some_to}
-use Rattle.laws.proofs.Firsts.{some_none, some_more}
 use Rattle.window.specs.View.{above, seen}
-use Rattle.window.proofs.Views.{seen_is}
 use Rattle.refusals.proofs.some_over.Given as goal
 
 abbrev pub invariant-loop-i : goal.invariant-loop-i

@@ -1,15 +1,11 @@
-use Prim.Native.Nat.{ℕ, ◌+◌, ◌-◌, ◌≤◌}
+use Prim.Native.Nat.{ℕ, ◌+◌}
 use mathlib.Core.Path.{◌≡◌, ap₂, ◌∙◌}
 use native.Mathlib.Omega.{arith}
-use lib.ListN.{length}
 use borrow.Author.Rules.{rules}
-use Rattle.laws.specs.Sum.{sum_to}
-use Rattle.laws.proofs.Tables.{Filling, filling_none, filling_more, filling_done}
+use Rattle.laws.proofs.Tables.{filling_none, filling_more}
 use Rattle.laws.proofs.Sums.{sum_none, sum_more}
 use Rattle.window.specs.Shape.{sites_of}
-use Rattle.window.specs.View.{seen}
-use Rattle.window.proofs.Sides.{sites-few}
-use Rattle.repair.specs.Repair.{filled_at, sample_after, code_after, filled_count}
+use Rattle.repair.specs.Repair.{filled_count}
 use Rattle.repair.proofs.fill.Goals as goal
 
 pub loop-i-init : goal.loop-i-init

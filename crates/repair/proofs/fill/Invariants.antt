@@ -1,16 +1,11 @@
 -- `fill` is right because each turn decides one more site on the mask and frame that came in, and stores its sample and code.
-use Prim.Native.Nat.{ℕ, ◌+◌, ◌-◌, ◌≤◌}
-use mathlib.Core.Path.{◌≡◌, ap₂, ◌∙◌}
-use native.Mathlib.Omega.{arith}
+use Prim.Native.Nat.{◌-◌, ◌≤◌}
+use mathlib.Core.Path.{◌≡◌}
 use lib.ListN.{length}
-use borrow.Author.Rules.{rules}
 use Rattle.laws.specs.Sum.{sum_to}
-use Rattle.laws.proofs.Tables.{Filling, filling_none, filling_more, filling_done}
-use Rattle.laws.proofs.Sums.{sum_none, sum_more}
-use Rattle.window.specs.Shape.{sites_of}
+use Rattle.laws.proofs.Tables.{Filling}
 use Rattle.window.specs.View.{seen}
-use Rattle.window.proofs.Sides.{sites-few}
-use Rattle.repair.specs.Repair.{filled_at, sample_after, code_after, filled_count}
+use Rattle.repair.specs.Repair.{filled_at, sample_after, code_after}
 use Rattle.repair.proofs.fill.Given as goal
 
 abbrev pub invariant-loop-i : goal.invariant-loop-i

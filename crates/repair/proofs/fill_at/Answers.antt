@@ -1,6 +1,5 @@
 -- `fill_at` is right because only a defect with a surveyed neighbour becomes something else.
 use mathlib.Core.Path.{sym, ap₂, ◌∙◌}
-use native.Mathlib.Omega.{arith}
 use borrow.Author.Rules.{rules}
 use Rattle.repair.specs.Repair.{mean_of}
 use Rattle.repair.proofs.Repairs.{not_defect, no_neighbour, neighboured, kept_code, new_code, kept_sample, new_sample}

@@ -1,6 +1,5 @@
 -- `judge_repair` is right because it hands its own tests, of the two buffers that are written, to the judge that calls share.
 use mathlib.Core.Path.{refl}
-use borrow.Author.Rules.{rules}
 use Rattle.verdict.proofs.Verdicts.{then_of}
 use Rattle.refusals.proofs.Judges.{frame_of}
 use Rattle.repair.specs.Repair.{repair_verdict}

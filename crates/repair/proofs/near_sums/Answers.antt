@@ -1,6 +1,5 @@
 -- `near_sums` is right because it sums the definition's box of the site's own plane.
 use native.Mathlib.Omega.{arith}
-use borrow.Author.Rules.{rules}
 use Rattle.window.proofs.Sides.{Sides, sides, sites-few}
 use Rattle.near.proofs.Nears.{near-told}
 use Rattle.repair.proofs.near_sums.Goals as goal

@@ -1,6 +1,5 @@
 -- `repair` is right because it writes only where nothing is refused, and then every site's sample and code.
 use mathlib.Core.Path.{sym, ◌∙◌}
-use borrow.Author.Rules.{rules}
 use Rattle.repair.proofs.Repairs.{repair_refused, repair_done}
 use Rattle.repair.proofs.Accepts.{repair_accepted}
 use Rattle.repair.proofs.repair.Goals as goal

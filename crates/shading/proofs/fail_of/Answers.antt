@@ -1,9 +1,5 @@
 -- `fail_of` is right because its test is the definition's, and both products fit.
-use Prim.Native.Nat.{◌-◌, ◌^◌}
-use native.Mathlib.Omega.{arith}
 use borrow.Author.Tests.{lt-ltb, le-ltb}
-use borrow.Author.Rules.{rules}
-use Rattle.laws.proofs.Cases.{times_le}
 use Rattle.shading.specs.Shade.{fails}
 use Rattle.shading.proofs.fail_of.Goals as goal
 

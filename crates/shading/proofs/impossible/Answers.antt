@@ -1,7 +1,5 @@
 -- `impossible` is right because its two tests are the definition's, and the product fits.
 use mathlib.Core.Path.{refl}
-use native.Mathlib.Omega.{arith}
-use Rattle.laws.proofs.Cases.{times_le}
 use Rattle.shading.specs.Judge.{impossible}
 use Rattle.shading.proofs.impossible.Goals as goal
 

@@ -1,6 +1,5 @@
 -- `judge` is right because 11 is asked only of a table that 1 to 4 and 9 let pass.
 use mathlib.Core.Path.{◌∙◌, sym}
-use borrow.Author.Rules.{rules}
 use Rattle.shading.proofs.Judging.{lent, asked_last, lent_refused}
 use Rattle.shading.proofs.judge.Goals as goal
 

@@ -1,6 +1,4 @@
 -- `judge_blocks` is right because it stores both halves of the buffers.
-use borrow.Author.Rules.{rules}
-use native.Mathlib.Omega.{arith}
 use Rattle.shading.proofs.Walks.{both_halves}
 use Rattle.shading.proofs.judge_blocks.Goals as goal
 

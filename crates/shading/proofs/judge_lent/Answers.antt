@@ -1,7 +1,6 @@
 -- `judge_lent` is right because it asks 1, 2, 3, 4 and 9 in that order.
 use mathlib.Core.Bool.{Bool}
 use mathlib.Core.Path.{ap, ◌∙◌}
-use borrow.Author.Rules.{rules}
 use Rattle.verdict.specs.Verdict.{refuse_if}
 use Rattle.verdict.proofs.Verdicts.{then_of}
 use Rattle.shading.specs.Judge.{lent_verdict}

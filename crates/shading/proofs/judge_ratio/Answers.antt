@@ -1,16 +1,13 @@
-use Prim.Native.Nat.{ℕ, ◌+◌, ◌-◌, ◌*◌, ◌≤◌, ◌<◌}
-use mathlib.Core.Path.{◌≡◌, refl, ap}
+use Prim.Native.Nat.{◌+◌, ◌*◌, ◌<◌}
+use mathlib.Core.Path.{◌≡◌, ap}
 use native.Mathlib.Omega.{arith}
 use lib.Arith.{digits_lt}
-use borrow.Author.Rules.{rules}
-use Rattle.laws.proofs.Cases.{times_le}
-use Rattle.laws.proofs.Tables.{Storing, storing_none, storing_more}
+use Rattle.laws.proofs.Tables.{storing_more}
 use Rattle.blocks.specs.Areas.{blocks_of}
 use Rattle.blocks.proofs.Areas.{block_sites, centre_sites}
 use Rattle.shading.specs.Judge.{shade_in}
 use Rattle.shading.specs.declared.Shade.{Shade}
 use Rattle.shading.proofs.Entries.{in_four}
-use Rattle.shading.proofs.Walks.{half_stored}
 use Rattle.shading.proofs.judge_ratio.Goals as goal
 use Rattle.shading.proofs.judge_ratio.Goals.{After-shade_of-shade, In-loop-k}
 

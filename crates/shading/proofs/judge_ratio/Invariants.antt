@@ -1,17 +1,8 @@
 -- `judge_ratio` is right because each turn stores the shade of one block more, beside the centre of the same two planes.
-use Prim.Native.Nat.{ℕ, ◌+◌, ◌-◌, ◌*◌, ◌≤◌, ◌<◌}
-use mathlib.Core.Path.{◌≡◌, refl, ap}
-use native.Mathlib.Omega.{arith}
-use lib.Arith.{digits_lt}
-use borrow.Author.Rules.{rules}
-use Rattle.laws.proofs.Cases.{times_le}
-use Rattle.laws.proofs.Tables.{Storing, storing_none, storing_more}
-use Rattle.blocks.specs.Areas.{blocks_of}
-use Rattle.blocks.proofs.Areas.{block_sites, centre_sites}
+use Prim.Native.Nat.{ℕ, ◌-◌, ◌*◌, ◌≤◌}
+use mathlib.Core.Path.{◌≡◌}
+use Rattle.laws.proofs.Tables.{Storing}
 use Rattle.shading.specs.Judge.{shade_in}
-use Rattle.shading.specs.declared.Shade.{Shade}
-use Rattle.shading.proofs.Entries.{in_four}
-use Rattle.shading.proofs.Walks.{half_stored}
 use Rattle.shading.proofs.judge_ratio.Given as goal
 
 abbrev pub invariant-loop-k : goal.invariant-loop-k

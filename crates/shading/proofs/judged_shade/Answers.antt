@@ -1,8 +1,7 @@
 -- `judged_shade` is right because both products and their difference stay far inside an i64.
 use Prim.Native.Nat.{◌*◌}
-use borrow.Author.Rules.{rules}
 use Rattle.shading.proofs.Shades.{Small}
-use Rattle.shading.proofs.Machine.{c_times_b, a_times_d, offset_fits, numerator-low, denominator-low, shade_is}
+use Rattle.shading.proofs.Machine.{offset_fits, numerator-low, denominator-low, shade_is}
 use Rattle.shading.proofs.judged_shade.Goals as goal
 use Rattle.shading.proofs.judged_shade.Goals.{Start}
 

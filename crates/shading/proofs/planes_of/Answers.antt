@@ -1,6 +1,5 @@
 -- `planes_of` is right because its branches are the definition's two ratios.
 use borrow.Author.Tests.{eq-eqb, ne_eqb}
-use borrow.Author.Rules.{rules}
 use Rattle.shading.specs.Judge.{planes_of}
 use Rattle.shading.proofs.planes_of.Goals as goal
 

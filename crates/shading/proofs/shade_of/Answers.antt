@@ -1,7 +1,6 @@
 -- `shade_of` is right because it asks 7, then 10, and judges only what is left.
 use mathlib.Core.Bool.{◌||◌}
 use mathlib.Core.Path.{◌≡◌, ap₂, sym, ◌∙◌}
-use borrow.Author.Rules.{rules}
 use Rattle.shading.specs.Shade.{too_few, shade_of}
 use Rattle.shading.proofs.Shades.{small}
 use Rattle.shading.proofs.shade_of.Goals as goal

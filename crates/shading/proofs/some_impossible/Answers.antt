@@ -1,13 +1,9 @@
-use Prim.Native.Nat.{ℕ, ◌+◌, ◌-◌, ◌%◌, ◌≤◌, ◌<◌}
-use mathlib.Core.Path.{◌≡◌, refl, sym, ap, ap₂, ◌∙◌}
-use native.Mathlib.Nat.{mod-eq_of_lt, mod-lt, mod-add-mod}
+use Prim.Native.Nat.{ℕ, ◌+◌, ◌%◌}
+use mathlib.Core.Path.{◌≡◌, refl, ap, ap₂, ◌∙◌}
+use native.Mathlib.Nat.{mod-add-mod}
 use native.Mathlib.Omega.{arith}
-use lib.ListN.{length}
-use borrow.Author.Rules.{rules}
-use Rattle.laws.specs.First.{some_to}
 use Rattle.blocks.specs.Areas.{areas_of}
-use Rattle.shading.specs.Judge.{impossible_at}
-use Rattle.shading.proofs.Walks.{asked_none, asked_more, asked-all}
+use Rattle.shading.proofs.Walks.{asked_more, asked-all}
 use Rattle.shading.proofs.some_impossible.Goals as goal
 
 pub loop-e-preserved : goal.loop-e-preserved

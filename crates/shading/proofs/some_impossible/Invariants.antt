@@ -1,14 +1,10 @@
 -- `some_impossible` is right because each turn asks the test of one entry more.
-use Prim.Native.Nat.{ℕ, ◌+◌, ◌-◌, ◌%◌, ◌≤◌, ◌<◌}
-use mathlib.Core.Path.{◌≡◌, refl, sym, ap, ap₂, ◌∙◌}
-use native.Mathlib.Nat.{mod-eq_of_lt, mod-lt, mod-add-mod}
-use native.Mathlib.Omega.{arith}
+use Prim.Native.Nat.{◌-◌, ◌%◌, ◌≤◌}
+use mathlib.Core.Path.{◌≡◌}
 use lib.ListN.{length}
-use borrow.Author.Rules.{rules}
 use Rattle.laws.specs.First.{some_to}
 use Rattle.blocks.specs.Areas.{areas_of}
 use Rattle.shading.specs.Judge.{impossible_at}
-use Rattle.shading.proofs.Walks.{asked_none, asked_more, asked-all}
 use Rattle.shading.proofs.some_impossible.Given as goal
 
 abbrev pub invariant-loop-e : goal.invariant-loop-e

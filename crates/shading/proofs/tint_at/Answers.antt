@@ -1,8 +1,4 @@
 -- `tint_at` is right because the entries of an area of a whole table can be read, and 11 lets them pass.
-use Prim.Native.Nat.{ℕ, ◌+◌, ◌*◌, ◌≤◌, ◌<◌}
-use native.Mathlib.Omega.{arith}
-use borrow.Author.Rules.{rules}
-use Rattle.laws.proofs.Cases.{times_le}
 use Rattle.shading.proofs.Walks.{read_at, tint_is}
 use Rattle.shading.proofs.tint_at.Goals as goal
 use Rattle.shading.proofs.tint_at.Goals.{After-blocks-areas}

@@ -1,5 +1,4 @@
 -- `too_dark` is right because it asks 10 of the same three totals.
-use borrow.Author.Rules.{rules}
 use Rattle.shading.specs.Shade.{too_dark}
 use Rattle.shading.proofs.too_dark.Goals as goal
 

@@ -1,10 +1,9 @@
-use Prim.Native.Nat.{ℕ, ◌+◌, ◌-◌, ◌*◌, ◌≤◌}
+use Prim.Native.Nat.{ℕ, ◌+◌, ◌≤◌}
 use mathlib.Core.Path.{◌≡◌, sym, ap₂, ◌∙◌}
 use native.Mathlib.Nat.{le_refl}
 use native.Mathlib.Omega.{arith}
-use borrow.Author.Rules.{rules}
 use Rattle.laws.specs.Table.{held}
-use Rattle.laws.proofs.Tables.{Filling, filling_none, filling_more, filling_read, filling_rest}
+use Rattle.laws.proofs.Tables.{filling_none, filling_more, filling_read, filling_rest}
 use Rattle.window.specs.View.{one, seen}
 use Rattle.window.proofs.Views.{one_is, seen_is, one_le, seen_le}
 use Rattle.sites.specs.Walk.{down_to}

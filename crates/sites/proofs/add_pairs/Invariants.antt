@@ -1,9 +1,5 @@
 -- `add_pairs` is right because each turn adds one more pair.
-use Prim.Native.Nat.{◌-◌, ◌*◌, ◌≤◌}
-use mathlib.Core.Path.{◌≡◌}
-use native.Mathlib.Nat.{mul-le-mul_left, mul-add}
-use native.Mathlib.Omega.{arith}
-use borrow.Author.Rules.{rules}
+use Prim.Native.Nat.{◌-◌, ◌≤◌}
 use Rattle.sites.specs.Walk.{Totals}
 use Rattle.sites.proofs.add_pairs.Given as goal
 

@@ -1,7 +1,6 @@
 -- `find_defects` is right because it writes only where nothing is refused, and then every site's code.
 use mathlib.Core.Path.{sym, ◌∙◌}
 use native.Mathlib.Omega.{arith}
-use borrow.Author.Rules.{rules}
 use Rattle.sites.proofs.Finds.{used_few, find_refused, find_done}
 use Rattle.sites.proofs.Accepts.{find_accepted}
 use Rattle.sites.proofs.find_defects.Goals as goal

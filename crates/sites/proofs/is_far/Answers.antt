@@ -1,7 +1,4 @@
 -- `is_far` is right because both products are whole numbers below 2^64.
-use native.Mathlib.Omega.{arith}
-use borrow.Author.Rules.{rules}
-use Rattle.laws.proofs.Cases.{times_le}
 use Rattle.sites.specs.Find.{far}
 use Rattle.sites.proofs.is_far.Goals as goal
 

@@ -1,5 +1,4 @@
 -- `judge_find` is right because it hands its own tests, of the threshold and of the mask that is written, to the judge that calls share.
-use borrow.Author.Rules.{rules}
 use Rattle.refusals.proofs.Judges.{frame_of}
 use Rattle.sites.specs.Find.{find_verdict}
 use Rattle.sites.proofs.judge_find.Goals as goal

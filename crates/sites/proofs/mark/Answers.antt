@@ -1,13 +1,11 @@
-use Prim.Native.Nat.{ℕ, ◌+◌, ◌-◌, ◌*◌, ◌/◌, ◌≤◌, min}
-use mathlib.Core.Path.{◌≡◌, refl, ◌∙◌}
+use Prim.Native.Nat.{ℕ, ◌≤◌}
+use mathlib.Core.Path.{refl, ◌∙◌}
 use native.Mathlib.Omega.{arith}
-use lib.ListN.{length, length-replicate}
-use borrow.Author.Rules.{rules}
+use lib.ListN.{length-replicate}
 use Rattle.laws.specs.Table.{held}
 use Rattle.window.proofs.Sides.{Sides, sides}
-use Rattle.sites.specs.Walk.{Totals}
 use Rattle.sites.proofs.Totals.{totals_none, both_nested}
-use Rattle.sites.proofs.Marks.{Marked, marked_none, marked_all, marked_row, pairs_in, row_in}
+use Rattle.sites.proofs.Marks.{marked_none, marked_all, marked_row, pairs_in, row_in}
 use Rattle.sites.proofs.mark.Goals as goal
 use Rattle.sites.proofs.mark.Goals.{At-loop-y}
 

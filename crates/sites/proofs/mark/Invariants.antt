@@ -1,14 +1,9 @@
 -- `mark` is right because at each row the totals are brought down to before its boxes and to their end, and then mark it.
-use Prim.Native.Nat.{ℕ, ◌+◌, ◌-◌, ◌*◌, ◌/◌, ◌≤◌, min}
-use mathlib.Core.Path.{◌≡◌, refl, ◌∙◌}
-use native.Mathlib.Omega.{arith}
-use lib.ListN.{length, length-replicate}
-use borrow.Author.Rules.{rules}
-use Rattle.laws.specs.Table.{held}
-use Rattle.window.proofs.Sides.{Sides, sides}
+use Prim.Native.Nat.{◌+◌, ◌-◌, ◌*◌, ◌/◌, ◌≤◌, min}
+use mathlib.Core.Path.{◌≡◌}
+use lib.ListN.{length}
 use Rattle.sites.specs.Walk.{Totals}
-use Rattle.sites.proofs.Totals.{totals_none, both_nested}
-use Rattle.sites.proofs.Marks.{Marked, marked_none, marked_all, marked_row, pairs_in, row_in}
+use Rattle.sites.proofs.Marks.{Marked}
 use Rattle.sites.proofs.mark.Given as goal
 
 abbrev pub invariant-loop-y : goal.invariant-loop-y

@@ -1,11 +1,10 @@
-use Prim.Native.Nat.{ℕ, ◌+◌, ◌-◌, ◌*◌, ◌≤◌}
+use Prim.Native.Nat.{ℕ, ◌+◌}
 use mathlib.Core.Path.{◌≡◌, ap, ap₂, ◌∙◌}
 use native.Mathlib.Omega.{arith}
 use borrow.Author.Rules.{rules}
-use Rattle.laws.specs.Sum.{sum_to}
 use Rattle.laws.specs.Table.{held}
 use Rattle.laws.proofs.Sums.{sum_none, sum_more}
-use Rattle.laws.proofs.Tables.{Storing, storing_none, storing_more}
+use Rattle.laws.proofs.Tables.{storing_none, storing_more}
 use Rattle.sites.specs.Find.{marked}
 use Rattle.sites.specs.Walk.{found_by, found_along, marked_along}
 use Rattle.sites.proofs.mark_along.Goals as goal

@@ -1,14 +1,10 @@
 -- `mark_along` is right because each turn decides one more site of the row by what the totals differ by, and stores its code.
-use Prim.Native.Nat.{ℕ, ◌+◌, ◌-◌, ◌*◌, ◌≤◌}
-use mathlib.Core.Path.{◌≡◌, ap, ap₂, ◌∙◌}
-use native.Mathlib.Omega.{arith}
-use borrow.Author.Rules.{rules}
+use Prim.Native.Nat.{◌-◌, ◌*◌, ◌≤◌}
+use mathlib.Core.Path.{◌≡◌}
 use Rattle.laws.specs.Sum.{sum_to}
 use Rattle.laws.specs.Table.{held}
-use Rattle.laws.proofs.Sums.{sum_none, sum_more}
-use Rattle.laws.proofs.Tables.{Storing, storing_none, storing_more}
-use Rattle.sites.specs.Find.{marked}
-use Rattle.sites.specs.Walk.{found_by, found_along, marked_along}
+use Rattle.laws.proofs.Tables.{Storing}
+use Rattle.sites.specs.Walk.{found_along, marked_along}
 use Rattle.sites.proofs.mark_along.Given as goal
 
 abbrev pub invariant-loop-x : goal.invariant-loop-x

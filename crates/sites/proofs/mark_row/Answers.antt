@@ -1,7 +1,5 @@
 -- `mark_row` is right because the totals that it runs along the row differ, where a box begins and ends, by what totals along a row do.
-use native.Mathlib.Omega.{arith}
-use borrow.Author.Rules.{rules}
-use Rattle.sites.proofs.Totals.{rising, told-between, row_in_pair}
+use Rattle.sites.proofs.Totals.{rising, told-between}
 use Rattle.sites.proofs.Finds.{same_row}
 use Rattle.sites.proofs.mark_row.Goals as goal
 

@@ -1,10 +1,9 @@
-use Prim.Native.Nat.{ℕ, ◌+◌, ◌-◌, ◌*◌, ◌<◌, ◌≤◌}
+use Prim.Native.Nat.{ℕ, ◌+◌, ◌*◌, ◌<◌, ◌≤◌}
 use mathlib.Core.Path.{◌≡◌, ap, ◌∙◌}
 use native.Mathlib.Omega.{arith}
 use lib.ListN.{length, set, length-set}
-use borrow.Author.Rules.{rules}
 use Rattle.laws.specs.Table.{held}
-use Rattle.laws.proofs.Tables.{Storing, storing_none, storing_more}
+use Rattle.laws.proofs.Tables.{storing_more}
 use Rattle.sites.specs.Walk.{strip, along_to}
 use Rattle.sites.proofs.Totals.{along_more, along_most, along_read, begun}
 use Rattle.sites.proofs.run.Goals as goal

@@ -1,13 +1,7 @@
 -- `run` is right because each turn adds what stands at one more column to the total of its parity so far, two places before.
-use Prim.Native.Nat.{ℕ, ◌+◌, ◌-◌, ◌*◌, ◌<◌, ◌≤◌}
-use mathlib.Core.Path.{◌≡◌, ap, ◌∙◌}
-use native.Mathlib.Omega.{arith}
-use lib.ListN.{length, set, length-set}
-use borrow.Author.Rules.{rules}
-use Rattle.laws.specs.Table.{held}
-use Rattle.laws.proofs.Tables.{Storing, storing_none, storing_more}
+use Prim.Native.Nat.{ℕ, ◌+◌, ◌-◌, ◌≤◌}
+use Rattle.laws.proofs.Tables.{Storing}
 use Rattle.sites.specs.Walk.{strip, along_to}
-use Rattle.sites.proofs.Totals.{along_more, along_most, along_read, begun}
 use Rattle.sites.proofs.run.Given as goal
 
 abbrev pub invariant-loop-x : goal.invariant-loop-x

@@ -1,7 +1,5 @@
 -- `beyond` is right because its tests are the definition's, and their products fit.
 use mathlib.Core.Path.{refl}
-use native.Mathlib.Omega.{arith}
-use Rattle.laws.proofs.Cases.{times_le}
 use Rattle.stack.specs.Walk.{beyond}
 use Rattle.stack.proofs.beyond.Goals as goal
 

@@ -1,7 +1,5 @@
 -- `refuse_impossible` is right because it heeds what it finds only of a stack of at most 100 frames that can be walked, and there the rest by 128 is the count.
 use mathlib.Core.Path.{sym, ap, ◌∙◌}
-use native.Mathlib.Omega.{arith}
-use borrow.Author.Rules.{rules}
 use Rattle.verdict.specs.Verdict.{refuse_if}
 use Rattle.stack.proofs.Turns.{asked-all, not_asked}
 use Rattle.stack.proofs.refuse_impossible.Goals as goal

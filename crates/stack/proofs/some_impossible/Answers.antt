@@ -1,10 +1,8 @@
-use Prim.Native.Nat.{ℕ, ◌-◌, ◌*◌, ◌≤◌}
-use mathlib.Core.Path.{◌≡◌, refl, ap, ◌∙◌}
+use Prim.Native.Nat.{◌*◌, ◌≤◌}
+use mathlib.Core.Path.{refl}
 use native.Mathlib.Omega.{arith}
 use lib.ListN.{length}
-use borrow.Author.Rules.{rules}
 use Rattle.laws.proofs.Cases.{times_le}
-use Rattle.stack.specs.State.{stack_of, impossible_in}
 use Rattle.stack.proofs.Sites.{Readable, readable_is}
 use Rattle.stack.proofs.Turns.{asked_none, asked_more}
 use Rattle.stack.proofs.some_impossible.Goals as goal

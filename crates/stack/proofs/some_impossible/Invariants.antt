@@ -1,13 +1,8 @@
 -- `some_impossible` is right because each turn asks 11 of one site more, by limits that are the same at every site.
-use Prim.Native.Nat.{ℕ, ◌-◌, ◌*◌, ◌≤◌}
-use mathlib.Core.Path.{◌≡◌, refl, ap, ◌∙◌}
-use native.Mathlib.Omega.{arith}
+use Prim.Native.Nat.{◌-◌, ◌≤◌}
+use mathlib.Core.Path.{◌≡◌}
 use lib.ListN.{length}
-use borrow.Author.Rules.{rules}
-use Rattle.laws.proofs.Cases.{times_le}
 use Rattle.stack.specs.State.{stack_of, impossible_in}
-use Rattle.stack.proofs.Sites.{Readable, readable_is}
-use Rattle.stack.proofs.Turns.{asked_none, asked_more}
 use Rattle.stack.proofs.some_impossible.Given as goal
 
 abbrev pub invariant-loop-i : goal.invariant-loop-i

@@ -1,5 +1,4 @@
 -- `top` is right because its branches are the definition's, and full scale has few bits.
-use native.Mathlib.Omega.{arith}
 use borrow.Author.Tests.{eq-eqb, ne_eqb}
 use Rattle.stack.specs.Walk.{top}
 use Rattle.stack.proofs.top.Goals as goal

@@ -1,6 +1,5 @@
 -- `judge_variance` is right because it asks the definition's tests in its order, 7 and 11 of a whole window.
 use mathlib.Core.Path.{ap, ◌∙◌}
-use borrow.Author.Rules.{rules}
 use Rattle.verdict.specs.Verdict.{refuse_if}
 use Rattle.verdict.proofs.Verdicts.{then_of}
 use Rattle.refusals.proofs.Judges.{mask_of_lem}

@@ -1,10 +1,6 @@
-use Prim.Native.Nat.{ℕ, ◌-◌, ◌*◌, ◌≤◌}
-use mathlib.Core.Path.{◌≡◌, ap, ◌∙◌}
+use Prim.Native.Nat.{◌*◌, ◌≤◌}
 use native.Mathlib.Omega.{arith}
-use lib.ListN.{length, get_or}
-use borrow.Author.Rules.{rules}
-use Rattle.window.specs.View.{seen}
-use Rattle.variance.specs.Variance.{scatter}
+use lib.ListN.{get_or}
 use Rattle.variance.proofs.Turns.{scatter_small, scatter_none, scatter_more}
 use Rattle.variance.proofs.scatter.Goals as goal
 use Rattle.variance.proofs.scatter.Goals.{After-scatter_at-total}

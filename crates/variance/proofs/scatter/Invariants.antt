@@ -1,12 +1,9 @@
 -- `scatter` is right because each turn adds one site's k × q − s², as they are seen there.
-use Prim.Native.Nat.{ℕ, ◌-◌, ◌*◌, ◌≤◌}
-use mathlib.Core.Path.{◌≡◌, ap, ◌∙◌}
-use native.Mathlib.Omega.{arith}
-use lib.ListN.{length, get_or}
-use borrow.Author.Rules.{rules}
+use Prim.Native.Nat.{◌-◌, ◌*◌, ◌≤◌}
+use mathlib.Core.Path.{◌≡◌}
+use lib.ListN.{length}
 use Rattle.window.specs.View.{seen}
 use Rattle.variance.specs.Variance.{scatter}
-use Rattle.variance.proofs.Turns.{scatter_small, scatter_none, scatter_more}
 use Rattle.variance.proofs.scatter.Given as goal
 
 abbrev pub invariant-loop-i : goal.invariant-loop-i

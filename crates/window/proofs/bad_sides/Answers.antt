@@ -1,5 +1,4 @@
 -- `bad_sides` is right because each side is judged by `bad_side`.
-use borrow.Author.Rules.{rules}
 use Rattle.window.specs.Shape.{bad_sides}
 use Rattle.window.proofs.bad_sides.Goals as goal
 

@@ -1,10 +1,7 @@
 -- `some_code_above` is right because each turn asks the test of one index more.
-use Prim.Native.Nat.{ℕ, ◌-◌, ◌≤◌}
-use mathlib.Core.Path.{◌≡◌, refl, sym, ap, ◌∙◌}
-use native.Mathlib.Omega.{arith}
+use Prim.Native.Nat.{◌-◌, ◌≤◌}
+use mathlib.Core.Path.{◌≡◌}
 use lib.ListN.{length}
-use borrow.Author.Rules.{rules}
-use Rattle.laws.proofs.Firsts.{some_none, some_more}
 use Rattle.laws.specs.First.{some_to}
 use Rattle.window.specs.View.{code_above}
 use Rattle.window.proofs.some_code_above.Given as goal

@@ -3,7 +3,6 @@ use Prim.Native.Nat.{ℕ}
 use mathlib.Core.Path.{sym, ap, ◌∙◌}
 use native.Mathlib.Omega.{arith}
 use lib.ListN.{length}
-use borrow.Author.Rules.{rules}
 use Rattle.laws.proofs.Sums.{sum_none}
 use Rattle.laws.specs.Sum.{sum_to}
 use Rattle.window.proofs.Walks.{Whole, walked_some}

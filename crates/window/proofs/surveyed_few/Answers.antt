@@ -1,10 +1,7 @@
-use Prim.Native.Nat.{ℕ, ◌+◌, ◌-◌, ◌≤◌}
-use mathlib.Core.Path.{ap₂, ◌≡◌, sym, ap, ◌∙◌}
+use Prim.Native.Nat.{ℕ, ◌+◌}
+use mathlib.Core.Path.{ap₂, ◌≡◌, sym, ◌∙◌}
 use native.Mathlib.Omega.{arith}
-use lib.ListN.{length}
-use borrow.Author.Rules.{rules}
 use Rattle.laws.proofs.Sums.{sum_none, sum_more}
-use Rattle.laws.specs.Sum.{sum_to}
 use Rattle.window.proofs.Views.{one_is, one_le, surveyed-few}
 use Rattle.window.specs.View.{one}
 use Rattle.window.proofs.surveyed_few.Goals as goal

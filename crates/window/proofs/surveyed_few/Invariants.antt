@@ -1,12 +1,8 @@
 -- `surveyed_few` is right because each turn adds 1 at a surveyed site and 0 at any other, and a window has fewer sites than 16 bits can count.
-use Prim.Native.Nat.{ℕ, ◌+◌, ◌-◌, ◌≤◌}
-use mathlib.Core.Path.{ap₂, ◌≡◌, sym, ap, ◌∙◌}
-use native.Mathlib.Omega.{arith}
+use Prim.Native.Nat.{◌-◌, ◌≤◌}
+use mathlib.Core.Path.{◌≡◌}
 use lib.ListN.{length}
-use borrow.Author.Rules.{rules}
-use Rattle.laws.proofs.Sums.{sum_none, sum_more}
 use Rattle.laws.specs.Sum.{sum_to}
-use Rattle.window.proofs.Views.{one_is, one_le, surveyed-few}
 use Rattle.window.specs.View.{one}
 use Rattle.window.proofs.surveyed_few.Given as goal
 

@@ -1,6 +1,5 @@
 -- `walkable` is right because it compares the length with the window's sites, as the definition does.
 use mathlib.Core.Path.{sym, ◌∙◌}
-use borrow.Author.Rules.{rules}
 use Rattle.window.proofs.Walks.{walked_whole, walked_none}
 use Rattle.window.proofs.walkable.Goals as goal
 
