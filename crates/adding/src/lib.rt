@@ -11,7 +11,7 @@ ghost use Rattle.adding.specs.Add.{add_verdict, add_answer, add_paper_of, add_pa
 use verdict::{Refusal, Verdict};
 
 // The frames that are in the stack now, or a refusal.
-#[derive(Drop)]
+#[derive(Clone, Copy)]
 pub enum Added {
     Frames(u64),
     Refused(Refusal),

@@ -9,7 +9,7 @@ ghost use Rattle.blinking.specs.Blinking.{bad_spread, blinks_at, blinks, blinkin
 use verdict::{Refusal, Verdict};
 
 // How many sites blink, or a refusal.
-#[derive(Drop)]
+#[derive(Clone, Copy)]
 pub enum Blinking {
     Sites(u64),
     Refused(Refusal),

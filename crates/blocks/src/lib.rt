@@ -15,7 +15,7 @@ use plane::PlaneBox;
 use verdict::{Refusal, Verdict};
 
 // Done, or a refusal.
-#[derive(Drop)]
+#[derive(Clone, Copy)]
 pub enum Shaded {
     Done,
     Refused(Refusal),

@@ -11,21 +11,21 @@ use plane::{PlaneBox, Sums};
 use verdict::{Refusal, Verdict};
 
 // A colour over a green, unreduced.
-#[derive(Drop)]
+#[derive(Clone, Copy)]
 pub struct Ratio {
     pub numerator: i64,
     pub denominator: u64,
 }
 
 // R, B and Gb over Gr, or a refusal.
-#[derive(Drop)]
+#[derive(Clone, Copy)]
 pub enum Colour {
     OverGr(Ratio, Ratio, Ratio),
     Refused(Refusal),
 }
 
 // The plane that has each colour.
-#[derive(Drop)]
+#[derive(Clone, Copy)]
 pub struct Mosaic {
     pub r: usize,
     pub gr: usize,

@@ -10,7 +10,7 @@ ghost use Rattle.dark.specs.Dark.{above_black, dark_verdict, dark_answer, paper_
 use verdict::{Refusal, Verdict};
 
 // The numerator and the denominator, or a refusal.
-#[derive(Drop)]
+#[derive(Clone, Copy)]
 pub enum Dark {
     Level(i64, u64),
     Refused(Refusal),

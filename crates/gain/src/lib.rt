@@ -17,7 +17,7 @@ pub struct Point {
 }
 
 // The slope of variance against mean: its two parts, unreduced, and their quotient, grey levels per electron; and the place of the greatest variance.
-#[derive(Drop)]
+#[derive(Clone, Copy)]
 pub struct Gain {
     pub numerator: i64,
     pub denominator: u64,
@@ -25,7 +25,7 @@ pub struct Gain {
     pub saturation: usize,
 }
 
-#[derive(Drop)]
+#[derive(Clone, Copy)]
 pub enum Transfer {
     Measured(Gain),
     Refused(Refusal),

@@ -12,7 +12,7 @@ ghost use Rattle.lines.specs.Marks.{lines_verdict, lines_answer, paper_of, lines
 use plane::{PlaneBox, Sums};
 use verdict::{Refusal, Verdict};
 
-#[derive(Drop)]
+#[derive(Clone, Copy)]
 pub enum Marked {
     Done,
     Refused(Refusal),

@@ -11,7 +11,7 @@ ghost use Rattle.pair.specs.Pair.{pair_answer, paper_of, pair_paper};
 use verdict::{Refusal, Verdict};
 
 // n surveyed sites; P and Q, and the variance P/Q in grey levels squared; r, the whole root of 2048 × P, and the noise r / (64 × n) in grey levels.
-#[derive(Drop)]
+#[derive(Clone, Copy)]
 pub struct PairFigures {
     pub n: u64,
     pub p: u64,
@@ -21,14 +21,14 @@ pub struct PairFigures {
     pub noise: f64,
 }
 
-#[derive(Drop)]
+#[derive(Clone, Copy)]
 pub enum Pair {
     Measured(PairFigures),
     Refused(Refusal),
 }
 
 // Sums over the surveyed sites: how many, the samples of each frame, and the squares of the differences.
-#[derive(Drop)]
+#[derive(Clone, Copy)]
 struct Totals {
     n: u64,
     first: u64,
@@ -37,7 +37,7 @@ struct Totals {
 }
 
 // n and P.
-#[derive(Drop)]
+#[derive(Clone, Copy)]
 struct Spread {
     n: u64,
     p: u64,

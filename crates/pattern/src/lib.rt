@@ -16,7 +16,7 @@ ghost use Rattle.pattern.specs.Walk.{lined, line_of, with_row, Possible, Accepte
 use verdict::{Refusal, Verdict};
 
 // Level squared and Max, each by the two numbers of its fraction, unreduced.
-#[derive(Drop)]
+#[derive(Clone, Copy)]
 pub struct Figures {
     pub level_numerator: u64,
     pub level_denominator: u64,
@@ -24,7 +24,7 @@ pub struct Figures {
     pub max_denominator: u64,
 }
 
-#[derive(Drop)]
+#[derive(Clone, Copy)]
 pub enum Pattern {
     Measured(Figures),
     Refused(Refusal),

@@ -25,7 +25,7 @@ pub struct Sums {
 }
 
 // What is seen in a box of the two planes that share their rows: of even and of odd columns.
-#[derive(Drop)]
+#[derive(Clone, Copy)]
 pub struct Pair {
     pub even: Sums,
     pub odd: Sums,

@@ -8,7 +8,7 @@ ghost use Rattle.raw.specs.Unpack.{unpack_verdict, unpack_answer, paper_of, unpa
 
 use verdict::{Refusal, Verdict};
 
-#[derive(Drop)]
+#[derive(Clone, Copy)]
 pub enum Unpacked {
     Done,
     Refused(Refusal),

@@ -14,7 +14,7 @@ use verdict::{Refusal, Verdict};
 // The eight plane neighbours of a site: so many rows and columns of its plane to each side.
 const REACH: usize = 1;
 
-#[derive(Drop)]
+#[derive(Clone, Copy)]
 pub enum Repaired {
     Filled(u64),
     Refused(Refusal),
@@ -61,7 +61,7 @@ fn mean(total: u64, count: u64) -> u16
 }
 
 // What becomes of a site: its sample, its code, and 1 where it is filled.
-#[derive(Drop)]
+#[derive(Clone, Copy)]
 struct Site {
     sample: u16,
     code: u8,

@@ -14,7 +14,7 @@ use plane::Sums;
 use verdict::{Refusal, Verdict};
 
 // Done, or a refusal.
-#[derive(Drop)]
+#[derive(Clone, Copy)]
 pub enum Judged {
     Done,
     Refused(Refusal),
@@ -55,7 +55,7 @@ struct Tint {
 }
 
 // A block and ratio: 7, 10 or 0; how far it is off the centre's; and 1 where that is above the limit.
-#[derive(Drop)]
+#[derive(Clone, Copy)]
 struct Shade {
     number: u8,
     numerator: u64,

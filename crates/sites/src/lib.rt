@@ -16,7 +16,7 @@ const DEFAULT_THRESHOLD: u64 = 24;
 // The 31 × 31 sites around one: so many rows and columns of its plane to each side.
 const REACH: usize = 15;
 
-#[derive(Drop)]
+#[derive(Clone, Copy)]
 pub enum Defects {
     Found(u64),
     Refused(Refusal),

@@ -16,7 +16,7 @@ use pair::Pair;
 use verdict::{Refusal, Verdict};
 
 // What the job prints: sites, variance p / q, noise r / r_over, dark dark / dark_over; or a refusal.
-#[derive(Drop)]
+#[derive(Clone, Copy)]
 pub enum Answer {
     Figures {
         sites: u64,

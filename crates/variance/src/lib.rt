@@ -11,7 +11,7 @@ ghost use Rattle.variance.specs.Variance.{too_few, variance_verdict, scatter, va
 use verdict::{Refusal, Verdict};
 
 // Numerator, denominator and their quotient, or a refusal.
-#[derive(Drop)]
+#[derive(Clone, Copy)]
 pub enum Variance {
     Figures(u64, u64, f64),
     Refused(Refusal),
