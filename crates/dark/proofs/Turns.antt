@@ -14,7 +14,7 @@ use Rattle.laws.specs.Signed.{◌⊖◌}
 use Rattle.laws.proofs.Cases.{times_le}
 use Rattle.laws.proofs.Sums.{sum_none, sum_more, sum-le}
 use Rattle.laws.proofs.Signeds.{⊖-self}
-use Rattle.laws.proofs.Machine.{Is, laid_is, less_is, add_is, add_fits}
+use Rattle.laws.proofs.Machine.{Is, nat_is, laid_is, less_is, add_is, add_fits}
 use Rattle.window.specs.View.{surveyed, seen_at, seen, one}
 use Rattle.window.proofs.Views.{seen_is, one_is, seen_le, surveyed-few}
 
@@ -28,8 +28,8 @@ chosen code x black z e = by (surveyed code) e
     by false e = rw (mul-zero black) (e ∙ sym (⊖-self 0))
 
 module _ (black : ℕ) (mask frame : List ℕ) where
-  pub start : pos 0 ≡ sum_to 0 (seen mask frame) ⊖ black * sum_to 0 (one mask)
-  start = rw (← sum_none (seen mask frame), ← sum_none (one mask), mul-zero black) (sym (⊖-self 0))
+  pub start : Is 0 (sum_to 0 (seen mask frame)) (black * sum_to 0 (one mask))
+  start = rw (← sum_none (seen mask frame), ← sum_none (one mask), mul-zero black) (nat_is 0 (omega arith))
 
   module _ (i sum : ℕ) (z : ℤ) (small : black ≤ 4095) (inside : i < 16384) (fits : (j : ℕ) → Fits w16 (get_or frame j 0))
       (so_far : to_z w64 sum ≡ sum_to i (seen mask frame) ⊖ black * sum_to i (one mask))
@@ -59,7 +59,7 @@ module _ (black : ℕ) (mask frame : List ℕ) where
     pub turn_fits : SFits w64 (to_z w64 sum +ℤ to_z w64 (of_z w64 z))
     turn_fits = add_fits summed added (omega (arith, up, low i)) (omega (arith, down, one_down))
 
-    pub turn : to_z w64 (of_z w64 (to_z w64 sum +ℤ to_z w64 (of_z w64 z))) ≡ sum_to (i + 1) (seen mask frame) ⊖ black * sum_to (i + 1) (one mask)
+    pub turn : Is (of_z w64 (to_z w64 sum +ℤ to_z w64 (of_z w64 z))) (sum_to (i + 1) (seen mask frame)) (black * sum_to (i + 1) (one mask))
     turn =
         rw (← sum_more i (seen mask frame), ← sum_more i (one mask), mul-add black (sum_to i (one mask)) (one mask i))
-        (add_is summed added (omega (arith, up, low i)) (omega (arith, down, one_down))).val
+        (add_is summed added (omega (arith, up, low i)) (omega (arith, down, one_down)))
