@@ -1,3 +1,4 @@
 pub mod Slopes
 pub mod Walks
+pub mod Calls
 pub mod Promises
