@@ -40,6 +40,7 @@ pub fn root_of(x: u64) -> u64
 pub const LOSSLESS: u64 = 0x20_0000_0000_0000;
 
 // p / q, rounded once; 0.0 where q is 0, or where p or q would lose bits as an f64.
+#[tactic(auto, using(crate::proofs::Quotients::zero_bits), unfolding(crate::specs::Quotient::quotient_or_zero, crate::specs::Quotient::castable))]
 pub fn ratio(p: u64, q: u64) -> f64
     ensures { result ≡ quotient_or_zero p q }
 {

@@ -68,6 +68,7 @@ struct Site {
     filled: u64,
 }
 
+#[tactic(auto, unfolding(crate::specs::Repair::filled_at, crate::specs::Repair::sample_after, crate::specs::Repair::code_after))]
 fn fill_at(width: usize, height: usize, i: usize, mask: &[u8], frame: &[u16]) -> Site
     requires height_value { (bad_sides width height ≡ false) × (i < sites_of width height) }
     requires mask_len { (length mask.now ≡ sites_of width height) × (length frame.now ≡ sites_of width height) }

@@ -57,6 +57,7 @@ pub fn walkable(width: usize, height: usize, long: usize) -> usize
 }
 
 // A sample as its site's code lets it be seen.
+#[tactic(auto, unfolding(crate::specs::View::seen_at))]
 pub fn seen_at(code: u8, sample: u16) -> u16
     ensures { result ≡ seen_at code sample }
 {
@@ -64,6 +65,7 @@ pub fn seen_at(code: u8, sample: u16) -> u16
 }
 
 // 1 as a site's code lets it be seen: what counts the surveyed sites.
+#[tactic(auto, unfolding(crate::specs::View::seen_at))]
 pub fn one_at(code: u8) -> u32
     ensures { (result ≡ seen_at code 1) × (result ≤ 1) }
 {
