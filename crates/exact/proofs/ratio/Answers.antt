@@ -5,11 +5,7 @@ use native.Mathlib.Omega.{arith}
 use Rattle.exact.proofs.Quotients.{Ranged, ranged-quotient}
 use Rattle.exact.proofs.Division.{division}
 use Rattle.exact.proofs.ratio.Goals as goal
-use Rattle.exact.proofs.ratio.Goals.{Else-p-gt-LOSSLESS}
-
--- where nothing was refused
-legal : (c : Else-p-gt-LOSSLESS) → Ranged c.args.p c.args.q
-legal c = record { top = omega arith; some = pos_of_ne-zero c.if-q-eq0.false; bottom = omega arith }
 
 pub returns : goal.returns
-returns c = division _ _ (legal (goal.at.returns c).Else-p-gt-LOSSLESS) ∙ sym (ranged-quotient _ _ (legal (goal.at.returns c).Else-p-gt-LOSSLESS))
+returns c = let ranged : Ranged c.args.p c.args.q = record { top = omega arith; some = pos_of_ne-zero c.if-q-eq0.false; bottom = omega arith } in
+    division _ _ ranged ∙ sym (ranged-quotient _ _ ranged)
