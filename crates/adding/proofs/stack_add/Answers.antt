@@ -36,38 +36,10 @@ widen-requires c = let a = known (goal.at.widen-requires c).In-Clear in
 pub overflow_add-result : goal.overflow_add-result
 overflow_add-result c = omega (arith, (known (goal.at.overflow_add-result c).In-Clear).room)
 
-pub returns-in-Refused-clause-answer : goal.returns-in-Refused-clause-answer
-returns-in-Refused-clause-answer c = (refused_is _ _ _ _ _ _ _ (sym c.judge_add.ensures ∙ c.in-Refused.is)).0
+pub returns-in-Refused : goal.returns-in-Refused
+returns-in-Refused c = let r = refused_is _ _ _ _ _ _ _ (sym c.judge_add.ensures ∙ c.in-Refused.is) in
+    record { answer = r.0; paper = r.1.0; sums = r.1.1.0; squares = r.1.1.1.0; least = r.1.1.1.1.0; greatest = r.1.1.1.1.1 }
 
-pub returns-in-Refused-clause-paper : goal.returns-in-Refused-clause-paper
-returns-in-Refused-clause-paper c = (refused_is _ _ _ _ _ _ _ (sym c.judge_add.ensures ∙ c.in-Refused.is)).1.0
-
-pub returns-in-Refused-clause-sums : goal.returns-in-Refused-clause-sums
-returns-in-Refused-clause-sums c = (refused_is _ _ _ _ _ _ _ (sym c.judge_add.ensures ∙ c.in-Refused.is)).1.1.0
-
-pub returns-in-Refused-clause-squares : goal.returns-in-Refused-clause-squares
-returns-in-Refused-clause-squares c = (refused_is _ _ _ _ _ _ _ (sym c.judge_add.ensures ∙ c.in-Refused.is)).1.1.1.0
-
-pub returns-in-Refused-clause-least : goal.returns-in-Refused-clause-least
-returns-in-Refused-clause-least c = (refused_is _ _ _ _ _ _ _ (sym c.judge_add.ensures ∙ c.in-Refused.is)).1.1.1.1.0
-
-pub returns-in-Refused-clause-greatest : goal.returns-in-Refused-clause-greatest
-returns-in-Refused-clause-greatest c = (refused_is _ _ _ _ _ _ _ (sym c.judge_add.ensures ∙ c.in-Refused.is)).1.1.1.1.1
-
-pub returns-in-Clear-clause-answer : goal.returns-in-Clear-clause-answer
-returns-in-Clear-clause-answer c = (accepted_is _ _ _ _ _ _ (clear (goal.at.returns-in-Clear-clause-answer c).In-Clear) _ _ _ _ c.add_seen.ensures.sums c.add_seen.ensures.squares c.widen.ensures.least c.widen.ensures.greatest).0
-
-pub returns-in-Clear-clause-paper : goal.returns-in-Clear-clause-paper
-returns-in-Clear-clause-paper c = (accepted_is _ _ _ _ _ _ (clear (goal.at.returns-in-Clear-clause-paper c).In-Clear) _ _ _ _ c.add_seen.ensures.sums c.add_seen.ensures.squares c.widen.ensures.least c.widen.ensures.greatest).1.0
-
-pub returns-in-Clear-clause-sums : goal.returns-in-Clear-clause-sums
-returns-in-Clear-clause-sums c = (accepted_is _ _ _ _ _ _ (clear (goal.at.returns-in-Clear-clause-sums c).In-Clear) _ _ _ _ c.add_seen.ensures.sums c.add_seen.ensures.squares c.widen.ensures.least c.widen.ensures.greatest).1.1.0
-
-pub returns-in-Clear-clause-squares : goal.returns-in-Clear-clause-squares
-returns-in-Clear-clause-squares c = (accepted_is _ _ _ _ _ _ (clear (goal.at.returns-in-Clear-clause-squares c).In-Clear) _ _ _ _ c.add_seen.ensures.sums c.add_seen.ensures.squares c.widen.ensures.least c.widen.ensures.greatest).1.1.1.0
-
-pub returns-in-Clear-clause-least : goal.returns-in-Clear-clause-least
-returns-in-Clear-clause-least c = (accepted_is _ _ _ _ _ _ (clear (goal.at.returns-in-Clear-clause-least c).In-Clear) _ _ _ _ c.add_seen.ensures.sums c.add_seen.ensures.squares c.widen.ensures.least c.widen.ensures.greatest).1.1.1.1.0
-
-pub returns-in-Clear-clause-greatest : goal.returns-in-Clear-clause-greatest
-returns-in-Clear-clause-greatest c = (accepted_is _ _ _ _ _ _ (clear (goal.at.returns-in-Clear-clause-greatest c).In-Clear) _ _ _ _ c.add_seen.ensures.sums c.add_seen.ensures.squares c.widen.ensures.least c.widen.ensures.greatest).1.1.1.1.1
+pub returns-in-Clear : goal.returns-in-Clear
+returns-in-Clear c = let r = accepted_is _ _ _ _ _ _ (clear (goal.at.returns-in-Clear c).In-Clear) _ _ _ _ c.add_seen.ensures.sums c.add_seen.ensures.squares c.widen.ensures.least c.widen.ensures.greatest in
+    record { answer = r.0; paper = r.1.0; sums = r.1.1.0; squares = r.1.1.1.0; least = r.1.1.1.1.0; greatest = r.1.1.1.1.1 }

@@ -20,14 +20,10 @@ overflow_cast-spread c = omega (arith, (accepted _ _ _ _ _ _ (clear (goal.at.ove
 pub count_blinking-count-requires : goal.count_blinking-count-requires
 count_blinking-count-requires c = countable _ _ _ _ _ _ (clear (goal.at.count_blinking-count-requires c).In-Clear)
 
-pub returns-in-Refused-clause-answer : goal.returns-in-Refused-clause-answer
-returns-in-Refused-clause-answer c = (refused_is _ _ _ _ _ _ _ (sym c.judge_blinking.ensures ∙ c.in-Refused.is)).0
+pub returns-in-Refused : goal.returns-in-Refused
+returns-in-Refused c = let r = refused_is _ _ _ _ _ _ _ (sym c.judge_blinking.ensures ∙ c.in-Refused.is) in
+    record { answer = r.0; paper = r.1 }
 
-pub returns-in-Refused-clause-paper : goal.returns-in-Refused-clause-paper
-returns-in-Refused-clause-paper c = (refused_is _ _ _ _ _ _ _ (sym c.judge_blinking.ensures ∙ c.in-Refused.is)).1
-
-pub returns-in-Clear-clause-answer : goal.returns-in-Clear-clause-answer
-returns-in-Clear-clause-answer c = (accepted_is _ _ _ _ _ _ (clear (goal.at.returns-in-Clear-clause-answer c).In-Clear) _ c.count_blinking-count.ensures).0
-
-pub returns-in-Clear-clause-paper : goal.returns-in-Clear-clause-paper
-returns-in-Clear-clause-paper c = (accepted_is _ _ _ _ _ _ (clear (goal.at.returns-in-Clear-clause-paper c).In-Clear) _ c.count_blinking-count.ensures).1
+pub returns-in-Clear : goal.returns-in-Clear
+returns-in-Clear c = let r = accepted_is _ _ _ _ _ _ (clear (goal.at.returns-in-Clear c).In-Clear) _ c.count_blinking-count.ensures in
+    record { answer = r.0; paper = r.1 }

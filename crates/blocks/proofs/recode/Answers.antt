@@ -4,16 +4,12 @@ use native.Mathlib.Omega.{arith}
 use Rattle.blocks.proofs.Entries.{amended-found, recoded-set}
 use Rattle.blocks.proofs.recode.Goals as goal
 
-pub returns-clause-mask_after : goal.returns-clause-mask_after
-returns-clause-mask_after c = let a = c.args in
-    recoded-set a.site a.code a.mask.now (omega arith)
-
-pub returns-clause-totals_after : goal.returns-clause-totals_after
-returns-clause-totals_after c = let a = c.args in
-    c.amend_areas.ensures
-    ∙ amended-found a.width a.height a.site _ _ _ _ _ _ a.totals.now c.requires.0 c.requires.4 c.block_entry-block.ensures c.centre_entry-centre.ensures c.seen_at-was.ensures c.seen_at-is.ensures
-
-pub returns-clause-counts_after : goal.returns-clause-counts_after
-returns-clause-counts_after c = let a = c.args in
-    c.amend_areas-2.ensures
-    ∙ amended-found a.width a.height a.site _ _ _ _ _ _ a.counts.now c.requires.0 c.requires.5 c.block_entry-block.ensures c.centre_entry-centre.ensures c.one_at.ensures.0 c.one_at-2.ensures.0
+pub returns : goal.returns
+returns c = let a = c.args in
+    record {
+      mask_after = recoded-set a.site a.code a.mask.now (omega arith);
+      totals_after = c.amend_areas.ensures
+          ∙ amended-found a.width a.height a.site _ _ _ _ _ _ a.totals.now c.requires.0 c.requires.4 c.block_entry-block.ensures c.centre_entry-centre.ensures c.seen_at-was.ensures c.seen_at-is.ensures;
+      counts_after = c.amend_areas-2.ensures
+          ∙ amended-found a.width a.height a.site _ _ _ _ _ _ a.counts.now c.requires.0 c.requires.5 c.block_entry-block.ensures c.centre_entry-centre.ensures c.one_at.ensures.0 c.one_at-2.ensures.0;
+    }

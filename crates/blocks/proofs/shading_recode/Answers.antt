@@ -25,37 +25,16 @@ pub recode-requires : goal.recode-requires
 recode-requires c = let a = known (goal.at.recode-requires c).In-Clear in
     (a.legal, a.inside, a.masked, a.framed, a.totalled, a.counted)
 
-pub returns-in-Refused-clause-answer : goal.returns-in-Refused-clause-answer
-returns-in-Refused-clause-answer c = (recode_refused _ _ _ _ _ _ _ _ _ _ (sym c.judge_recode.ensures ∙ c.in-Refused.is)).0
+pub returns-in-Refused : goal.returns-in-Refused
+returns-in-Refused c = let r = recode_refused _ _ _ _ _ _ _ _ _ _ (sym c.judge_recode.ensures ∙ c.in-Refused.is) in
+    record { answer = r.0; paper = r.1.0; mask = r.1.1.0; totals = r.1.1.1.0; counts = r.1.1.1.1 }
 
-pub returns-in-Refused-clause-paper : goal.returns-in-Refused-clause-paper
-returns-in-Refused-clause-paper c = (recode_refused _ _ _ _ _ _ _ _ _ _ (sym c.judge_recode.ensures ∙ c.in-Refused.is)).1.0
-
-pub returns-in-Refused-clause-mask : goal.returns-in-Refused-clause-mask
-returns-in-Refused-clause-mask c = (recode_refused _ _ _ _ _ _ _ _ _ _ (sym c.judge_recode.ensures ∙ c.in-Refused.is)).1.1.0
-
-pub returns-in-Refused-clause-totals : goal.returns-in-Refused-clause-totals
-returns-in-Refused-clause-totals c = (recode_refused _ _ _ _ _ _ _ _ _ _ (sym c.judge_recode.ensures ∙ c.in-Refused.is)).1.1.1.0
-
-pub returns-in-Refused-clause-counts : goal.returns-in-Refused-clause-counts
-returns-in-Refused-clause-counts c = (recode_refused _ _ _ _ _ _ _ _ _ _ (sym c.judge_recode.ensures ∙ c.in-Refused.is)).1.1.1.1
-
-pub returns-in-Clear-clause-answer : goal.returns-in-Clear-clause-answer
-returns-in-Clear-clause-answer c = let done = recode_accepted _ _ _ _ _ _ _ _ _ (clear (goal.at.returns-in-Clear-clause-answer c).In-Clear) in
-    done.0
-
-pub returns-in-Clear-clause-paper : goal.returns-in-Clear-clause-paper
-returns-in-Clear-clause-paper c = let done = recode_accepted _ _ _ _ _ _ _ _ _ (clear (goal.at.returns-in-Clear-clause-paper c).In-Clear) in
-    done.1.0
-
-pub returns-in-Clear-clause-mask : goal.returns-in-Clear-clause-mask
-returns-in-Clear-clause-mask c = let done = recode_accepted _ _ _ _ _ _ _ _ _ (clear (goal.at.returns-in-Clear-clause-mask c).In-Clear) in
-    c.recode.ensures.mask_after ∙ done.1.1.0
-
-pub returns-in-Clear-clause-totals : goal.returns-in-Clear-clause-totals
-returns-in-Clear-clause-totals c = let done = recode_accepted _ _ _ _ _ _ _ _ _ (clear (goal.at.returns-in-Clear-clause-totals c).In-Clear) in
-    c.recode.ensures.totals_after ∙ done.1.1.1.0
-
-pub returns-in-Clear-clause-counts : goal.returns-in-Clear-clause-counts
-returns-in-Clear-clause-counts c = let done = recode_accepted _ _ _ _ _ _ _ _ _ (clear (goal.at.returns-in-Clear-clause-counts c).In-Clear) in
-    c.recode.ensures.counts_after ∙ done.1.1.1.1
+pub returns-in-Clear : goal.returns-in-Clear
+returns-in-Clear c = let done = recode_accepted _ _ _ _ _ _ _ _ _ (clear (goal.at.returns-in-Clear c).In-Clear) in
+    record {
+      answer = done.0;
+      paper = done.1.0;
+      mask = c.recode.ensures.mask_after ∙ done.1.1.0;
+      totals = c.recode.ensures.totals_after ∙ done.1.1.1.0;
+      counts = c.recode.ensures.counts_after ∙ done.1.1.1.1;
+    }

@@ -17,30 +17,15 @@ pub sum_areas-requires : goal.sum_areas-requires
 sum_areas-requires c = let a = tabling _ _ _ _ _ _ _ (clear (goal.at.sum_areas-requires c).In-Clear) in
     (a.lent.of.legal, a.lent.of.masked, a.lent.framed, a.totalled, a.counted)
 
-pub returns-in-Refused-clause-answer : goal.returns-in-Refused-clause-answer
-returns-in-Refused-clause-answer c = (table_refused _ _ _ _ _ _ _ _ (sym c.judge_table.ensures ∙ c.in-Refused.is)).0
+pub returns-in-Refused : goal.returns-in-Refused
+returns-in-Refused c = let r = table_refused _ _ _ _ _ _ _ _ (sym c.judge_table.ensures ∙ c.in-Refused.is) in
+    record { answer = r.0; paper = r.1.0; totals = r.1.1.0; counts = r.1.1.1 }
 
-pub returns-in-Refused-clause-paper : goal.returns-in-Refused-clause-paper
-returns-in-Refused-clause-paper c = (table_refused _ _ _ _ _ _ _ _ (sym c.judge_table.ensures ∙ c.in-Refused.is)).1.0
-
-pub returns-in-Refused-clause-totals : goal.returns-in-Refused-clause-totals
-returns-in-Refused-clause-totals c = (table_refused _ _ _ _ _ _ _ _ (sym c.judge_table.ensures ∙ c.in-Refused.is)).1.1.0
-
-pub returns-in-Refused-clause-counts : goal.returns-in-Refused-clause-counts
-returns-in-Refused-clause-counts c = (table_refused _ _ _ _ _ _ _ _ (sym c.judge_table.ensures ∙ c.in-Refused.is)).1.1.1
-
-pub returns-in-Clear-clause-answer : goal.returns-in-Clear-clause-answer
-returns-in-Clear-clause-answer c = let done = table_accepted _ _ _ _ _ _ _ (clear (goal.at.returns-in-Clear-clause-answer c).In-Clear) in
-    done.0
-
-pub returns-in-Clear-clause-paper : goal.returns-in-Clear-clause-paper
-returns-in-Clear-clause-paper c = let done = table_accepted _ _ _ _ _ _ _ (clear (goal.at.returns-in-Clear-clause-paper c).In-Clear) in
-    done.1.0
-
-pub returns-in-Clear-clause-totals : goal.returns-in-Clear-clause-totals
-returns-in-Clear-clause-totals c = let done = table_accepted _ _ _ _ _ _ _ (clear (goal.at.returns-in-Clear-clause-totals c).In-Clear) in
-    c.sum_areas.ensures.totals_after ∙ done.1.1.0
-
-pub returns-in-Clear-clause-counts : goal.returns-in-Clear-clause-counts
-returns-in-Clear-clause-counts c = let done = table_accepted _ _ _ _ _ _ _ (clear (goal.at.returns-in-Clear-clause-counts c).In-Clear) in
-    c.sum_areas.ensures.counts_after ∙ done.1.1.1
+pub returns-in-Clear : goal.returns-in-Clear
+returns-in-Clear c = let done = table_accepted _ _ _ _ _ _ _ (clear (goal.at.returns-in-Clear c).In-Clear) in
+    record {
+      answer = done.0;
+      paper = done.1.0;
+      totals = c.sum_areas.ensures.totals_after ∙ done.1.1.0;
+      counts = c.sum_areas.ensures.counts_after ∙ done.1.1.1;
+    }

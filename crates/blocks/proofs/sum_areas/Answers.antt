@@ -26,10 +26,9 @@ loop-k-preserved c = let i = c.loop-k.invariant in
       rw c.store-in-loop-k.ensures (stored_more _ _ _ _ i.4 last i.2 first.1 second.1 third.1 fourth.1),
     )
 
-pub returns-clause-totals_after : goal.returns-clause-totals_after
-returns-clause-totals_after c = let all : entries_of c.args.width c.args.height ≡ 4 * (c.blocks-areas.result + 1) = omega (arith, c.blocks-areas.ensures.0) in
-    stored_done _ c.loop-k.invariant.3 (omega arith) (omega arith) c.requires.3 all
-
-pub returns-clause-counts_after : goal.returns-clause-counts_after
-returns-clause-counts_after c = let all : entries_of c.args.width c.args.height ≡ 4 * (c.blocks-areas.result + 1) = omega (arith, c.blocks-areas.ensures.0) in
-    stored_done _ c.loop-k.invariant.4 (omega arith) (omega arith) c.requires.4 all
+pub returns : goal.returns
+returns c = let all : entries_of c.args.width c.args.height ≡ 4 * (c.blocks-areas.result + 1) = omega (arith, c.blocks-areas.ensures.0) in
+    record {
+      totals_after = stored_done _ c.loop-k.invariant.3 (omega arith) (omega arith) c.requires.3 all;
+      counts_after = stored_done _ c.loop-k.invariant.4 (omega arith) (omega arith) c.requires.4 all;
+    }

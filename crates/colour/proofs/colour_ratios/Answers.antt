@@ -25,25 +25,18 @@ clear : (c : In-Clear)
     ≡ verdict.Clear
 clear c = sym (rest _ _ _ _ _ _ _ (sym c.judge-lent.ensures ∙ c.in_default.is) _ c.centres_seen-seen.ensures) ∙ sym c.judge_centres.ensures ∙ c.in-Clear.is
 
-pub returns-in-Refused-clause-answer : goal.returns-in-Refused-clause-answer
-returns-in-Refused-clause-answer c = (refused_is _ _ _ _ _ _ _ _ (lent_refused _ _ _ _ _ _ _ _ (sym c.judge-lent.ensures ∙ c.in-Refused.is))).0
-
-pub returns-in-Refused-clause-paper : goal.returns-in-Refused-clause-paper
-returns-in-Refused-clause-paper c = (refused_is _ _ _ _ _ _ _ _ (lent_refused _ _ _ _ _ _ _ _ (sym c.judge-lent.ensures ∙ c.in-Refused.is))).1
+pub returns-in-Refused : goal.returns-in-Refused
+returns-in-Refused c = let r = refused_is _ _ _ _ _ _ _ _ (lent_refused _ _ _ _ _ _ _ _ (sym c.judge-lent.ensures ∙ c.in-Refused.is)) in
+    record { answer = r.0; paper = r.1 }
 
 pub overflow_cast-black : goal.overflow_cast-black
 overflow_cast-black c = let l = lent _ _ _ _ _ _ _ (unrefused (goal.at.overflow_cast-black c).After-centres_seen-seen) in omega (arith, l.scale, l.dark)
 
-pub returns-in-Refused-judge_centres-clause-answer : goal.returns-in-Refused-judge_centres-clause-answer
-returns-in-Refused-judge_centres-clause-answer c = (refused_is _ _ _ _ _ _ _ _
-    (sym (rest _ _ _ _ _ _ _ (unrefused (goal.at.returns-in-Refused-judge_centres-clause-answer c).After-centres_seen-seen) _ c.centres_seen-seen.ensures) ∙ sym c.judge_centres.ensures ∙ c.in-Refused-judge_centres.is)).0
+pub returns-in-Refused-judge_centres : goal.returns-in-Refused-judge_centres
+returns-in-Refused-judge_centres c = let r = refused_is _ _ _ _ _ _ _ _
+    (sym (rest _ _ _ _ _ _ _ (unrefused (goal.at.returns-in-Refused-judge_centres c).After-centres_seen-seen) _ c.centres_seen-seen.ensures) ∙ sym c.judge_centres.ensures ∙ c.in-Refused-judge_centres.is) in
+    record { answer = r.0; paper = r.1 }
 
-pub returns-in-Refused-judge_centres-clause-paper : goal.returns-in-Refused-judge_centres-clause-paper
-returns-in-Refused-judge_centres-clause-paper c = (refused_is _ _ _ _ _ _ _ _
-    (sym (rest _ _ _ _ _ _ _ (unrefused (goal.at.returns-in-Refused-judge_centres-clause-paper c).After-centres_seen-seen) _ c.centres_seen-seen.ensures) ∙ sym c.judge_centres.ensures ∙ c.in-Refused-judge_centres.is)).1
-
-pub returns-in-Clear-clause-answer : goal.returns-in-Clear-clause-answer
-returns-in-Clear-clause-answer c = (accepted_is _ _ _ _ _ _ _ (clear (goal.at.returns-in-Clear-clause-answer c).In-Clear) _ (shown (goal.at.returns-in-Clear-clause-answer c).After-centres_seen-seen) _ _ _ c.over.ensures c.over-in-Clear.ensures c.over-in-Clear-2.ensures).0
-
-pub returns-in-Clear-clause-paper : goal.returns-in-Clear-clause-paper
-returns-in-Clear-clause-paper c = (accepted_is _ _ _ _ _ _ _ (clear (goal.at.returns-in-Clear-clause-paper c).In-Clear) _ (shown (goal.at.returns-in-Clear-clause-paper c).After-centres_seen-seen) _ _ _ c.over.ensures c.over-in-Clear.ensures c.over-in-Clear-2.ensures).1
+pub returns-in-Clear : goal.returns-in-Clear
+returns-in-Clear c = let r = accepted_is _ _ _ _ _ _ _ (clear (goal.at.returns-in-Clear c).In-Clear) _ (shown (goal.at.returns-in-Clear c).After-centres_seen-seen) _ _ _ c.over.ensures c.over-in-Clear.ensures c.over-in-Clear-2.ensures in
+    record { answer = r.0; paper = r.1 }

@@ -23,24 +23,15 @@ pub above_black-requires : goal.above_black-requires
 above_black-requires c = let a = accepted _ _ _ _ _ _ (clear (goal.at.above_black-requires c).In-Clear) in
     (a.dark, a.lent.framed ∙ sym a.lent.of.masked, omega (arith, sites-few c.args.width c.args.height, a.lent.of.masked))
 
-pub returns-in-Refused-clause-answer : goal.returns-in-Refused-clause-answer
-returns-in-Refused-clause-answer c = (refused_is _ _ _ _ _ _ _ (sym c.judge.ensures ∙ c.in-Refused.is)).0
+pub returns-in-Refused : goal.returns-in-Refused
+returns-in-Refused c = let r = refused_is _ _ _ _ _ _ _ (sym c.judge.ensures ∙ c.in-Refused.is) in
+    record { answer = r.0; paper = r.1 }
 
-pub returns-in-Refused-clause-paper : goal.returns-in-Refused-clause-paper
-returns-in-Refused-clause-paper c = (refused_is _ _ _ _ _ _ _ (sym c.judge.ensures ∙ c.in-Refused.is)).1
-
-pub returns-in-Clear-clause-answer : goal.returns-in-Clear-clause-answer
-returns-in-Clear-clause-answer c = let args = (c).args in
-    let whole = (accepted _ _ _ _ _ _ (clear (goal.at.returns-in-Clear-clause-answer c).In-Clear)).lent.of.masked in
+pub returns-in-Clear : goal.returns-in-Clear
+returns-in-Clear c = let args = c.args in
+    let whole = (accepted _ _ _ _ _ _ (clear (goal.at.returns-in-Clear c).In-Clear)).lent.of.masked in
     let back : to_z w64 (of_z w64 c.above_black.result) ≡ c.above_black.result = search rules in
-    (accepted_is _ _ _ _ _ _ (clear (goal.at.returns-in-Clear-clause-answer c).In-Clear) _ _
+    let r = accepted_is _ _ _ _ _ _ (clear (goal.at.returns-in-Clear c).In-Clear) _ _
     (back ∙ c.above_black.ensures ∙ ap (λ (n : ℕ). above_black n args.black_level (seen args.mask.now args.frame.now) (one args.mask.now)) whole)
-    (c.surveyed-count.ensures ∙ ap (λ (n : ℕ). sum_to n (one args.mask.now)) (walked_whole _ _ _ whole))).0
-
-pub returns-in-Clear-clause-paper : goal.returns-in-Clear-clause-paper
-returns-in-Clear-clause-paper c = let args = (c).args in
-    let whole = (accepted _ _ _ _ _ _ (clear (goal.at.returns-in-Clear-clause-paper c).In-Clear)).lent.of.masked in
-    let back : to_z w64 (of_z w64 c.above_black.result) ≡ c.above_black.result = search rules in
-    (accepted_is _ _ _ _ _ _ (clear (goal.at.returns-in-Clear-clause-paper c).In-Clear) _ _
-    (back ∙ c.above_black.ensures ∙ ap (λ (n : ℕ). above_black n args.black_level (seen args.mask.now args.frame.now) (one args.mask.now)) whole)
-    (c.surveyed-count.ensures ∙ ap (λ (n : ℕ). sum_to n (one args.mask.now)) (walked_whole _ _ _ whole))).1
+    (c.surveyed-count.ensures ∙ ap (λ (n : ℕ). sum_to n (one args.mask.now)) (walked_whole _ _ _ whole)) in
+    record { answer = r.0; paper = r.1 }

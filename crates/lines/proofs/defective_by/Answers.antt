@@ -16,23 +16,14 @@ clear c = sym c.judge.ensures ∙ c.in-Clear.is
 pub mark-requires : goal.mark-requires
 mark-requires c = ready c.args.vertical _ _ _ _ _ _ _ (clear (goal.at.mark-requires c).In-Clear) c.lines_of-lines.ensures
 
-pub returns-in-Refused-clause-answer : goal.returns-in-Refused-clause-answer
-returns-in-Refused-clause-answer c = (refused_is _ _ _ _ _ _ _ _ (sym c.judge.ensures ∙ c.in-Refused.is)).0
+pub returns-in-Refused : goal.returns-in-Refused
+returns-in-Refused c = let r = refused_is _ _ _ _ _ _ _ _ (sym c.judge.ensures ∙ c.in-Refused.is) in
+    record { answer = r.0; paper = r.1.0; buffer = r.1.1 }
 
-pub returns-in-Refused-clause-paper : goal.returns-in-Refused-clause-paper
-returns-in-Refused-clause-paper c = (refused_is _ _ _ _ _ _ _ _ (sym c.judge.ensures ∙ c.in-Refused.is)).1.0
-
-pub returns-in-Refused-clause-buffer : goal.returns-in-Refused-clause-buffer
-returns-in-Refused-clause-buffer c = (refused_is _ _ _ _ _ _ _ _ (sym c.judge.ensures ∙ c.in-Refused.is)).1.1
-
-pub returns-in-Clear-clause-answer : goal.returns-in-Clear-clause-answer
-returns-in-Clear-clause-answer c = let done = accepted_is _ _ _ _ _ _ _ (clear (goal.at.returns-in-Clear-clause-answer c).In-Clear) in
-    done.0
-
-pub returns-in-Clear-clause-paper : goal.returns-in-Clear-clause-paper
-returns-in-Clear-clause-paper c = let done = accepted_is _ _ _ _ _ _ _ (clear (goal.at.returns-in-Clear-clause-paper c).In-Clear) in
-    done.1.0
-
-pub returns-in-Clear-clause-buffer : goal.returns-in-Clear-clause-buffer
-returns-in-Clear-clause-buffer c = let done = accepted_is _ _ _ _ _ _ _ (clear (goal.at.returns-in-Clear-clause-buffer c).In-Clear) in
-    c.mark.ensures ∙ done.1.1
+pub returns-in-Clear : goal.returns-in-Clear
+returns-in-Clear c = let done = accepted_is _ _ _ _ _ _ _ (clear (goal.at.returns-in-Clear c).In-Clear) in
+    record {
+      answer = done.0;
+      paper = done.1.0;
+      buffer = c.mark.ensures ∙ done.1.1;
+    }

@@ -19,11 +19,9 @@ seven : (c : After-refuse_if) → let a = c.args in
     c.refuse_if.result ≡ pair_verdict a.width a.height a.full_scale a.mask.now a.first.now a.second.now
 seven c = c.refuse_if.ensures ∙ rest _ _ _ _ _ _ _ (sym c.judge_frames-frames.ensures ∙ c.in_default.is) c.spread_of-s.ensures
 
-pub returns-in-Refused-clause-answer : goal.returns-in-Refused-clause-answer
-returns-in-Refused-clause-answer c = (refused_is _ _ _ _ _ _ _ (frames_refused _ _ _ _ _ _ _ (sym c.judge_frames-frames.ensures ∙ c.in-Refused.is))).0
-
-pub returns-in-Refused-clause-paper : goal.returns-in-Refused-clause-paper
-returns-in-Refused-clause-paper c = (refused_is _ _ _ _ _ _ _ (frames_refused _ _ _ _ _ _ _ (sym c.judge_frames-frames.ensures ∙ c.in-Refused.is))).1
+pub returns-in-Refused : goal.returns-in-Refused
+returns-in-Refused c = let r = refused_is _ _ _ _ _ _ _ (frames_refused _ _ _ _ _ _ _ (sym c.judge_frames-frames.ensures ∙ c.in-Refused.is)) in
+    record { answer = r.0; paper = r.1 }
 
 pub spread_of-s-requires : goal.spread_of-s-requires
 spread_of-s-requires c = lent _ _ _ _ _ _ (cleared (goal.at.spread_of-s-requires c).In_default)
@@ -31,16 +29,11 @@ spread_of-s-requires c = lent _ _ _ _ _ _ (cleared (goal.at.spread_of-s-requires
 pub figures_of-requires : goal.figures_of-requires
 figures_of-requires c = in_bounds _ _ _ _ _ _ _ (cleared (goal.at.figures_of-requires c).In_default) c.spread_of-s.ensures (sym (seven (goal.at.figures_of-requires c).After-refuse_if) ∙ c.in-Clear.is)
 
-pub returns-in-Refused-refuse_if-clause-answer : goal.returns-in-Refused-refuse_if-clause-answer
-returns-in-Refused-refuse_if-clause-answer c = (refused_is _ _ _ _ _ _ _ (sym (seven (goal.at.returns-in-Refused-refuse_if-clause-answer c).After-refuse_if) ∙ c.in-Refused-refuse_if.is)).0
+pub returns-in-Refused-refuse_if : goal.returns-in-Refused-refuse_if
+returns-in-Refused-refuse_if c = let r = refused_is _ _ _ _ _ _ _ (sym (seven (goal.at.returns-in-Refused-refuse_if c).After-refuse_if) ∙ c.in-Refused-refuse_if.is) in
+    record { answer = r.0; paper = r.1 }
 
-pub returns-in-Refused-refuse_if-clause-paper : goal.returns-in-Refused-refuse_if-clause-paper
-returns-in-Refused-refuse_if-clause-paper c = (refused_is _ _ _ _ _ _ _ (sym (seven (goal.at.returns-in-Refused-refuse_if-clause-paper c).After-refuse_if) ∙ c.in-Refused-refuse_if.is)).1
-
-pub returns-in-Clear-clause-answer : goal.returns-in-Clear-clause-answer
-returns-in-Clear-clause-answer c = (accepted_is _ _ _ _ _ _ _ (sym (seven (goal.at.returns-in-Clear-clause-answer c).After-refuse_if) ∙ c.in-Clear.is)
-    (c.figures_of.ensures ∙ ap figures_of (same_spread _ _ _ _ _ _ _ (cleared (goal.at.returns-in-Clear-clause-answer c).In_default) c.spread_of-s.ensures))).0
-
-pub returns-in-Clear-clause-paper : goal.returns-in-Clear-clause-paper
-returns-in-Clear-clause-paper c = (accepted_is _ _ _ _ _ _ _ (sym (seven (goal.at.returns-in-Clear-clause-paper c).After-refuse_if) ∙ c.in-Clear.is)
-    (c.figures_of.ensures ∙ ap figures_of (same_spread _ _ _ _ _ _ _ (cleared (goal.at.returns-in-Clear-clause-paper c).In_default) c.spread_of-s.ensures))).1
+pub returns-in-Clear : goal.returns-in-Clear
+returns-in-Clear c = let r = accepted_is _ _ _ _ _ _ _ (sym (seven (goal.at.returns-in-Clear c).After-refuse_if) ∙ c.in-Clear.is)
+    (c.figures_of.ensures ∙ ap figures_of (same_spread _ _ _ _ _ _ _ (cleared (goal.at.returns-in-Clear c).In_default) c.spread_of-s.ensures)) in
+    record { answer = r.0; paper = r.1 }

@@ -20,7 +20,7 @@ ended c =
 ready : (c : After-line_of)
     → (12 ≤ c.line_of.result)
     × (c.line_of.result ≤ 128)
-    × (c.line_of-long.result * (c).args.frames * (c).args.full_scale ≤ 52416000)
+    × (c.line_of-long.result * c.args.frames * c.args.full_scale ≤ 52416000)
     × Possible c.line_of.result c.loop-y.totals
 ready c =
     totals_ready _ _ _ _ _ _ c.requires.1 _ (ended c) _ _ c.line_of.ensures c.line_of-long.ensures c.requires.0

@@ -19,14 +19,10 @@ passed c = clean _ _ _ _ _ _ _ (cleared c)
 pub measure-requires : goal.measure-requires
 measure-requires c = ((passed (goal.at.measure-requires c).In-Clear).enough, (passed (goal.at.measure-requires c).In-Clear).fair)
 
-pub returns-in-Refused-clause-answer : goal.returns-in-Refused-clause-answer
-returns-in-Refused-clause-answer c = (refused_is _ _ _ _ _ _ _ _ (sym c.judge.ensures ∙ c.in-Refused.is)).0
+pub returns-in-Refused : goal.returns-in-Refused
+returns-in-Refused c = let r = refused_is _ _ _ _ _ _ _ _ (sym c.judge.ensures ∙ c.in-Refused.is) in
+    record { answer = r.0; paper = r.1 }
 
-pub returns-in-Refused-clause-paper : goal.returns-in-Refused-clause-paper
-returns-in-Refused-clause-paper c = (refused_is _ _ _ _ _ _ _ _ (sym c.judge.ensures ∙ c.in-Refused.is)).1
-
-pub returns-in-Clear-clause-answer : goal.returns-in-Clear-clause-answer
-returns-in-Clear-clause-answer c = (accepted_is _ _ _ _ _ _ _ _ (cleared (goal.at.returns-in-Clear-clause-answer c).In-Clear) (c.measure.ensures ∙ figures_seen _ _ _ _ _ _ _ (passed (goal.at.returns-in-Clear-clause-answer c).In-Clear))).0
-
-pub returns-in-Clear-clause-paper : goal.returns-in-Clear-clause-paper
-returns-in-Clear-clause-paper c = (accepted_is _ _ _ _ _ _ _ _ (cleared (goal.at.returns-in-Clear-clause-paper c).In-Clear) (c.measure.ensures ∙ figures_seen _ _ _ _ _ _ _ (passed (goal.at.returns-in-Clear-clause-paper c).In-Clear))).1
+pub returns-in-Clear : goal.returns-in-Clear
+returns-in-Clear c = let r = accepted_is _ _ _ _ _ _ _ _ (cleared (goal.at.returns-in-Clear c).In-Clear) (c.measure.ensures ∙ figures_seen _ _ _ _ _ _ _ (passed (goal.at.returns-in-Clear c).In-Clear)) in
+    record { answer = r.0; paper = r.1 }

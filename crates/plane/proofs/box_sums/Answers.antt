@@ -6,22 +6,18 @@ use Rattle.plane.proofs.box_sums.Goals as goal
 pub returns-then-walkable-eq0-clause-value : goal.returns-then-walkable-eq0-clause-value
 returns-then-walkable-eq0-clause-value c = sums_none _ _ _ _ _ _ c.walkable.ensures c.if-walkable-eq0.true
 
-pub inner_sums-requires-clause-height_bound : goal.inner_sums-requires-clause-height_bound
-inner_sums-requires-clause-height_bound c = let whole = both_whole _ _ _ _ c.walkable.ensures c.if-walkable-eq0.false in
+pub inner_sums-requires : goal.inner_sums-requires
+inner_sums-requires c = let whole = both_whole _ _ _ _ c.walkable.ensures c.if-walkable-eq0.false in
     let legal = whole.0.legal in
-    omega (arith, legal.wide.high, legal.high.high)
+    record {
+      height_bound = omega (arith, legal.wide.high, legal.high.high);
+      mask_len = (whole.0.holds, whole.1.holds);
+    }
 
-pub inner_sums-requires-clause-mask_len : goal.inner_sums-requires-clause-mask_len
-inner_sums-requires-clause-mask_len c = let whole = both_whole _ _ _ _ c.walkable.ensures c.if-walkable-eq0.false in
-    let legal = whole.0.legal in
-    (whole.0.holds, whole.1.holds)
-
-pub returns-clause-value : goal.returns-clause-value
-returns-clause-value c = let known = c.shared_slice_known-2-1.given in
+pub returns : goal.returns
+returns c = let known = c.shared_slice_known-2-1.given in
     let told = sums-told _ _ _ _ _ _ _ c.inner-part.ensures c.inner_sums.ensures.count_value.0 c.inner_sums.ensures.total_value c.walkable.ensures c.if-walkable-eq0.false in
-    told
-
-pub returns-clause-count_bound : goal.returns-clause-count_bound
-returns-clause-count_bound c = let known = c.shared_slice_known-2-1.given in
-    let told = sums-told _ _ _ _ _ _ _ c.inner-part.ensures c.inner_sums.ensures.count_value.0 c.inner_sums.ensures.total_value c.walkable.ensures c.if-walkable-eq0.false in
-    (c.inner_sums.ensures.count_value.1, rw told (sums-low _ _ _ _ _ _ (λ i. omega (arith, known i))))
+    record {
+      value = told;
+      count_bound = (c.inner_sums.ensures.count_value.1, rw told (sums-low _ _ _ _ _ _ (λ i. omega (arith, known i))));
+    }

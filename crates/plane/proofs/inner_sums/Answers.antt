@@ -14,10 +14,9 @@ pub runs_sums-requires-else-right-left-lt4-clause-by_index : goal.runs_sums-requ
 runs_sums-requires-else-right-left-lt4-clause-by_index c = let a = c.args in
     λ u v l m. omega (arith, stepped a.width a.plane u v, site_in a.width a.height a.plane u (omega arith) v (omega arith))
 
-pub returns-then-right-left-lt4-clause-count_value : goal.returns-then-right-left-lt4-clause-count_value
-returns-then-right-left-lt4-clause-count_value c = let a = c.args in
-    (c.runs_sums.ensures.count_value.0 ∙ by_columns a.width a.plane _ _ _ _ (one a.mask.now), c.runs_sums.ensures.count_value.1)
-
-pub returns-then-right-left-lt4-clause-total_value : goal.returns-then-right-left-lt4-clause-total_value
-returns-then-right-left-lt4-clause-total_value c = let a = c.args in
-    c.runs_sums.ensures.total_value ∙ by_columns a.width a.plane _ _ _ _ (seen a.mask.now a.frame.now)
+pub returns-then-right-left-lt4 : goal.returns-then-right-left-lt4
+returns-then-right-left-lt4 c = let a = c.args in
+    record {
+      count_value = (c.runs_sums.ensures.count_value.0 ∙ by_columns a.width a.plane _ _ _ _ (one a.mask.now), c.runs_sums.ensures.count_value.1);
+      total_value = c.runs_sums.ensures.total_value ∙ by_columns a.width a.plane _ _ _ _ (seen a.mask.now a.frame.now);
+    }

@@ -21,19 +21,15 @@ returns-then-walkable-eq0 c = ap₂ pair (sums_none _ _ _ _ _ _ c.walkable.ensur
 pub overflow_mul-width : goal.overflow_mul-width
 overflow_mul-width c = omega (arith, narrow (goal.at.overflow_mul-width c).Else-walkable-eq0)
 
-pub runs_pair-requires-clause-start_bound : goal.runs_pair-requires-clause-start_bound
-runs_pair-requires-clause-start_bound c = let a = (c).args in
+pub runs_pair-requires : goal.runs_pair-requires
+runs_pair-requires c = let a = c.args in
     let odd = 2 * (a.row % 2) + 1 in
     let whole = both_whole _ _ _ _ c.walkable.ensures c.if-walkable-eq0.false in
     let legal = whole.0.legal in
-    let in-low = low (goal.at.runs_pair-requires-clause-start_bound c).Else-walkable-eq0 in omega (arith, legal.wide.high, legal.high.high, whole.0.holds, whole.1.holds)
-
-pub runs_pair-requires-clause-by_index : goal.runs_pair-requires-clause-by_index
-runs_pair-requires-clause-by_index c = let a = (c).args in
-    let odd = 2 * (a.row % 2) + 1 in
-    let whole = both_whole _ _ _ _ c.walkable.ensures c.if-walkable-eq0.false in
-    let legal = whole.0.legal in
-    let in-low = low (goal.at.runs_pair-requires-clause-by_index c).Else-walkable-eq0 in λ u v l m. omega (arith, whole.0.holds, paired a.width odd a.row (omega arith) u v, site_in a.width a.height odd u (omega arith) v (omega arith))
+    let in-low = low (goal.at.runs_pair-requires c).Else-walkable-eq0 in record {
+      start_bound = omega (arith, legal.wide.high, legal.high.high, whole.0.holds, whole.1.holds);
+      by_index = λ u v l m. omega (arith, whole.0.holds, paired a.width odd a.row (omega arith) u v, site_in a.width a.height odd u (omega arith) v (omega arith));
+    }
 
 pub returns : goal.returns
 returns c = let a = c.args in

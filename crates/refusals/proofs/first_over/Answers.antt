@@ -10,7 +10,7 @@ use Rattle.refusals.proofs.first_over.Goals.{After-wide, In-loop-column}
 -- what the test compares is what is seen at the site
 seen_here : (c : After-wide)
     → c.wide.result
-    ≡ seen (c).args.mask.now (c).args.frame.now c.loop-column.site
+    ≡ seen c.args.mask.now c.args.frame.now c.loop-column.site
 seen_here c = c.wide.ensures ∙ c.seen_at.ensures ∙ sym (seen_is _ _ _)
 
 pub rows-init : goal.rows-init

@@ -9,10 +9,7 @@ sums_at-requires c = read_at c.args.asked c.args.totals.now c.args.counts.now c.
 pub sums_at-requires-2 : goal.sums_at-requires-2
 sums_at-requires-2 c = read_at c.args.asked c.args.totals.now c.args.counts.now c.requires.whole c.args.k _ c.requires.colour_bound.2 c.blocks-areas.ensures.0 _ c.requires.colour_bound.1
 
-pub returns-clause-value : goal.returns-clause-value
-returns-clause-value c = (tint_is c.args.asked c.args.totals.now c.args.counts.now c.requires.whole c.args.k _ c.requires.colour_bound.2 c.blocks-areas.ensures.0
-    c.args.of (record { colour = c.requires.colour_bound.0; green = c.requires.colour_bound.1 }) _ _ c.sums_at.ensures c.sums_at-2.ensures).0
-
-pub returns-clause-possible : goal.returns-clause-possible
-returns-clause-possible c = (tint_is c.args.asked c.args.totals.now c.args.counts.now c.requires.whole c.args.k _ c.requires.colour_bound.2 c.blocks-areas.ensures.0
-    c.args.of (record { colour = c.requires.colour_bound.0; green = c.requires.colour_bound.1 }) _ _ c.sums_at.ensures c.sums_at-2.ensures).1
+pub returns : goal.returns
+returns c = let r = tint_is c.args.asked c.args.totals.now c.args.counts.now c.requires.whole c.args.k _ c.requires.colour_bound.2 c.blocks-areas.ensures.0
+    c.args.of (record { colour = c.requires.colour_bound.0; green = c.requires.colour_bound.1 }) _ _ c.sums_at.ensures c.sums_at-2.ensures in
+    record { value = r.0; possible = r.1 }

@@ -76,8 +76,6 @@ loop-y-preserved c = let row = c.mark_row-found.ensures.row_marked in
       marked_row _ _ _ _ _ _ _ _ _ _ _ _ (omega arith) first end above below _ _ _ _ c.loop-y.invariant.8 row,
     )
 
-pub returns-clause-value : goal.returns-clause-value
-returns-clause-value c = (marked_all _ _ _ _ _ _ _ _ (omega arith) (legal (goal.at.returns-clause-value c).At-loop-y) (c.loop-y.invariant.7 ∙ c.requires.mask_len.2) c.loop-y.invariant.8).0
-
-pub returns-clause-out_after : goal.returns-clause-out_after
-returns-clause-out_after c = (marked_all _ _ _ _ _ _ _ _ (omega arith) (legal (goal.at.returns-clause-out_after c).At-loop-y) (c.loop-y.invariant.7 ∙ c.requires.mask_len.2) c.loop-y.invariant.8).1
+pub returns : goal.returns
+returns c = let r = marked_all _ _ _ _ _ _ _ _ (omega arith) (legal (goal.at.returns c).At-loop-y) (c.loop-y.invariant.7 ∙ c.requires.mask_len.2) c.loop-y.invariant.8 in
+    record { value = r.0; out_after = r.1 }

@@ -6,13 +6,12 @@ use Rattle.stream.proofs.Streams.{judged}
 use Rattle.stream.specs.Job.{paper_of}
 use Rattle.stream.proofs.job.Goals as goal
 
-pub returns-in-Refused-clause-answer : goal.returns-in-Refused-clause-answer
-returns-in-Refused-clause-answer c = let e = fault_is _ (sym (judged c.args.input.now c.judge.ensures c.word_at.ensures.0 c.word_at-2.ensures.0) ∙ c.in-Refused.is) in
-    e
-
-pub returns-in-Refused-clause-paper : goal.returns-in-Refused-clause-paper
-returns-in-Refused-clause-paper c = let e = fault_is _ (sym (judged c.args.input.now c.judge.ensures c.word_at.ensures.0 c.word_at-2.ensures.0) ∙ c.in-Refused.is) in
-    ap paper_of e ∙ paper_is _
+pub returns-in-Refused : goal.returns-in-Refused
+returns-in-Refused c = let e = fault_is _ (sym (judged c.args.input.now c.judge.ensures c.word_at.ensures.0 c.word_at-2.ensures.0) ∙ c.in-Refused.is) in
+    record {
+      answer = e;
+      paper = ap paper_of e ∙ paper_is _;
+    }
 
 pub returns-in-Clear-clause-paper : goal.returns-in-Clear-clause-paper
 returns-in-Clear-clause-paper c = ap paper_of c.work.ensures ∙ paper_is _

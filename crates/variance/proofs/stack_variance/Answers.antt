@@ -28,16 +28,11 @@ overflow_mul-lower c = omega (arith, fits (goal.at.overflow_mul-lower c).In-Clea
 pub overflow_mul-lower-in-Clear : goal.overflow_mul-lower-in-Clear
 overflow_mul-lower-in-Clear c = omega (arith, fits (goal.at.overflow_mul-lower-in-Clear c).In-Clear)
 
-pub returns-in-Refused-clause-answer : goal.returns-in-Refused-clause-answer
-returns-in-Refused-clause-answer c = (refused_is _ _ _ _ _ _ (sym c.judge_variance.ensures ∙ c.in-Refused.is)).0
+pub returns-in-Refused : goal.returns-in-Refused
+returns-in-Refused c = let r = refused_is _ _ _ _ _ _ (sym c.judge_variance.ensures ∙ c.in-Refused.is) in
+    record { answer = r.0; paper = r.1 }
 
-pub returns-in-Refused-clause-paper : goal.returns-in-Refused-clause-paper
-returns-in-Refused-clause-paper c = (refused_is _ _ _ _ _ _ (sym c.judge_variance.ensures ∙ c.in-Refused.is)).1
-
-pub returns-in-Clear-clause-answer : goal.returns-in-Clear-clause-answer
-returns-in-Clear-clause-answer c = let walk = walkable _ _ _ _ _ (clear (goal.at.returns-in-Clear-clause-answer c).In-Clear) in
-    (accepted_is _ _ _ _ _ (clear (goal.at.returns-in-Clear-clause-answer c).In-Clear) _ c.surveyed-count.ensures _ _ (c.numerator-upper.ensures walk.0 walk.1 walk.2 walk.3) c.ratio.ensures).0
-
-pub returns-in-Clear-clause-paper : goal.returns-in-Clear-clause-paper
-returns-in-Clear-clause-paper c = let walk = walkable _ _ _ _ _ (clear (goal.at.returns-in-Clear-clause-paper c).In-Clear) in
-    (accepted_is _ _ _ _ _ (clear (goal.at.returns-in-Clear-clause-paper c).In-Clear) _ c.surveyed-count.ensures _ _ (c.numerator-upper.ensures walk.0 walk.1 walk.2 walk.3) c.ratio.ensures).1
+pub returns-in-Clear : goal.returns-in-Clear
+returns-in-Clear c = let walk = walkable _ _ _ _ _ (clear (goal.at.returns-in-Clear c).In-Clear) in
+    let r = accepted_is _ _ _ _ _ (clear (goal.at.returns-in-Clear c).In-Clear) _ c.surveyed-count.ensures _ _ (c.numerator-upper.ensures walk.0 walk.1 walk.2 walk.3) c.ratio.ensures in
+    record { answer = r.0; paper = r.1 }
