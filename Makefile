@@ -31,11 +31,11 @@ export pkg_config_file
 archive: target/staticlib/libtippovrain.a
 
 # folders too, so that a file that is gone counts; without out/, where rt writes
-target/staticlib/libtippovrain.a: crates.txt $(shell find crates -name out -prune -o -print)
+target/staticlib/libtippovrain.a: crates.txt tools/native-lib $(shell find crates -name out -prune -o -print)
 	@mkdir -p target/staticlib
-	@echo 'rt lib in crates/tippovrain: minutes, where nothing is proved yet'
-	@(cd crates/tippovrain && rt lib) >target/staticlib.log 2>&1 || { cat target/staticlib.log; exit 1; }
-	@cp crates/tippovrain/out/libtippovrain.a $@
+	@echo 'tools/native-lib tippovrain: minutes, where nothing is proved yet'
+	@tools/native-lib tippovrain
+	@cp target/native/libtippovrain.a $@
 
 installable:
 	@[ "$(MACHINE)" = x86_64 ] || { echo 'make install: the archive is x86-64 code only, and this machine is $(MACHINE)' >&2; exit 1; }
