@@ -7,10 +7,11 @@ use lib.Dec.{eqb, ltb}
 use lib.ListN.{length, get_or}
 use borrow.Author.Tests.{ltb-false, eqb-false}
 use Rattle.laws.proofs.Cases.{times_le}
-use Rattle.verdict.specs.Verdict.{◌⨟◌, refuse_if}
+use Rattle.verdict.specs.Verdict.{clear, ◌⨟◌, refuse_if}
 use Rattle.verdict.specs.declared.Refusal.{Refusal}
-use Rattle.verdict.specs.declared.Verdict.TheVariants as verdict
 use Rattle.verdict.proofs.Verdicts.{Test, Tabled, test, tabled, tabled_then, then_same, then_clear, unless}
+use Rattle.verdict.specs.declared.Refusal.TheVariants.{Sides, FullScale, Parameter, Length, Impossible, StackFull}
+use Rattle.std.specs.Prelude.{Err}
 use Rattle.window.specs.Shape.{bad_sides, bad_scale, sites_of}
 use Rattle.window.specs.View.{seen}
 use Rattle.window.proofs.Sides.{scale}
@@ -23,26 +24,25 @@ use Rattle.stack.specs.Walk.{found_impossible}
 use Rattle.stack.proofs.Sites.{Lengths, lengths_clear, lengths_tabled, PossibleAt, asked-whole, all-possible}
 use Rattle.adding.specs.After.{squared, with_frame}
 use Rattle.adding.specs.Add.{add_verdict, add_answer, add_paper_of, add_paper, add_stack}
-use Rattle.adding.specs.declared.Added.TheVariants.{Frames, Refused}
 use Rattle.adding.proofs.Turns.{leaves_room}
 
 module _ (w h full : ℕ) (mask frame : List ℕ) (s : Stack) where
   -- the tests in the order of document 01
   abbrev pub tests : List Test
   tests =
-      test 1 0 (bad_sides w h)
-      ∷ test 2 0 (bad_scale full)
-      ∷ test 3 0 (ltb 100 s.frames)
-      ∷ test 4 0 (other_than (sites_of w h) (length mask))
-      ∷ test 4 0 (other_than (sites_of w h) (length frame))
-      ∷ test 4 0 (other_than (sites_of w h) (length s.sums))
-      ∷ test 4 0 (other_than (sites_of w h) (length s.squares))
-      ∷ test 4 0 (other_than (sites_of w h) (length s.least))
-      ∷ test 4 0 (other_than (sites_of w h) (length s.greatest))
+      test Sides (bad_sides w h)
+      ∷ test FullScale (bad_scale full)
+      ∷ test Parameter (ltb 100 s.frames)
+      ∷ test Length (other_than (sites_of w h) (length mask))
+      ∷ test Length (other_than (sites_of w h) (length frame))
+      ∷ test Length (other_than (sites_of w h) (length s.sums))
+      ∷ test Length (other_than (sites_of w h) (length s.squares))
+      ∷ test Length (other_than (sites_of w h) (length s.least))
+      ∷ test Length (other_than (sites_of w h) (length s.greatest))
       ∷ codes_test (sites_of w h) mask
       ∷ samples_test w h full (seen mask frame ∷ []) (seen mask frame)
-      ∷ test 11 0 (impossible_in (sites_of w h) full mask s)
-      ∷ test 12 0 (eqb s.frames 100)
+      ∷ test Impossible (impossible_in (sites_of w h) full mask s)
+      ∷ test StackFull (eqb s.frames 100)
       ∷ []
 
   pub table : Tabled (add_verdict w h full mask frame s) tests
@@ -50,13 +50,13 @@ module _ (w h full : ℕ) (mask frame : List ℕ) (s : Stack) where
   table = tabled_then (frame_tabled w h full mask frame (tabled _ []) (lengths_tabled w h s)) (tabled _ _)
 
   -- 11 is asked of a whole stack: 4 comes first
-  pub judged : frame_verdict w h full (refuse_if 3 0 (ltb 100 s.frames)) mask frame (stack_lengths w h s)
-      ⨟ refuse_if 11 0 (found_impossible full mask s)
-      ⨟ refuse_if 12 0 (eqb s.frames 100)
+  pub judged : frame_verdict w h full (refuse_if Parameter (ltb 100 s.frames)) mask frame (stack_lengths w h s)
+      ⨟ refuse_if Impossible (found_impossible full mask s)
+      ⨟ refuse_if StackFull (eqb s.frames 100)
       ≡ add_verdict w h full mask frame s
   unfolding add_verdict
   judged =
-      then_same (frame_verdict w h full (refuse_if 3 0 (ltb 100 s.frames)) mask frame (stack_lengths w h s)) (λ e.
+      then_same (frame_verdict w h full (refuse_if Parameter (ltb 100 s.frames)) mask frame (stack_lengths w h s)) (λ e.
       let lent = frame_clear w h full mask frame e in
       rw (asked-whole w h full mask s lent.2.of (ltb-false 100 s.frames (unless _ (ltb 100 s.frames) lent.0)) lent.1))
 
@@ -67,7 +67,7 @@ module _ (w h full : ℕ) (mask frame : List ℕ) (s : Stack) where
     pub room : s.frames < 100
     pub possible : (i : ℕ) → i < sites_of w h → PossibleAt full mask s i
 
-  pub accepted : add_verdict w h full mask frame s ≡ verdict.Clear → Accepted
+  pub accepted : add_verdict w h full mask frame s ≡ clear → Accepted
   unfolding add_verdict
   accepted e =
       let both = then_clear _ _ e in
@@ -111,34 +111,20 @@ module _ (w h full : ℕ) (mask frame : List ℕ) (s : Stack) where
         (rw (← seen_is mask s.squares i) (omega arith)) (λ e. rw (none e)) (omega arith)
 
   -- what a refused frame leaves, and an accepted one
-  pub refused_stack : (r : Refusal) → add_verdict w h full mask frame s ≡ verdict.Refused r → add_stack w h full mask frame s ≡ s
+  pub refused_stack : (r : Refusal) → add_verdict w h full mask frame s ≡ Err r → add_stack w h full mask frame s ≡ s
   unfolding add_stack
   refused_stack r e = rw e
 
-  pub accepted_stack : add_verdict w h full mask frame s ≡ verdict.Clear → add_stack w h full mask frame s ≡ with_frame mask frame s
+  pub accepted_stack : add_verdict w h full mask frame s ≡ clear → add_stack w h full mask frame s ≡ with_frame mask frame s
   unfolding add_stack
   accepted_stack e = rw e
 
   -- so the answer, its numbers and the four buffers are those that are defined
-  pub refused_is : (r : Refusal) → add_verdict w h full mask frame s ≡ verdict.Refused r
-      → (Refused r ≡ add_answer w h full mask frame s)
-      × ((add_paper_of (Refused r) ≡ add_paper w h full mask frame s)
+  pub refused_is : (r : Refusal) → add_verdict w h full mask frame s ≡ Err r
+      → (Err r ≡ add_answer w h full mask frame s)
+      × ((add_paper_of (Err r) ≡ add_paper w h full mask frame s)
       × ((s.sums ≡ (add_stack w h full mask frame s).sums)
       × ((s.squares ≡ (add_stack w h full mask frame s).squares)
       × ((s.least ≡ (add_stack w h full mask frame s).least) × (s.greatest ≡ (add_stack w h full mask frame s).greatest)))))
   unfolding add_answer add_paper add_stack
   refused_is r e = rw e (refl, (refl, (refl, (refl, (refl, refl)))))
-
-  pub accepted_is : add_verdict w h full mask frame s ≡ verdict.Clear
-      → (sums squares least greatest : List ℕ)
-      → sums ≡ (with_frame mask frame s).sums
-      → squares ≡ (with_frame mask frame s).squares
-      → least ≡ (with_frame mask frame s).least
-      → greatest ≡ (with_frame mask frame s).greatest
-      → (Frames (s.frames + 1) ≡ add_answer w h full mask frame s)
-      × ((add_paper_of (Frames (s.frames + 1)) ≡ add_paper w h full mask frame s)
-      × ((sums ≡ (add_stack w h full mask frame s).sums)
-      × ((squares ≡ (add_stack w h full mask frame s).squares)
-      × ((least ≡ (add_stack w h full mask frame s).least) × (greatest ≡ (add_stack w h full mask frame s).greatest)))))
-  unfolding add_answer add_paper add_stack
-  accepted_is e sums squares least greatest a b c d = rw e (refl, (refl, (a, (b, (c, d)))))

@@ -1,5 +1,5 @@
 -- What is promised of `stack_add`, for any sides, full scale, frame and stack, and of runs of frames.
-use Prim.Native.Nat.{ℕ, ◌*◌, ◌≤◌, ◌<◌}
+use Prim.Native.Nat.{ℕ, ◌+◌, ◌*◌, ◌≤◌, ◌<◌}
 use mathlib.Core.Bool.{false, true}
 use mathlib.Core.List.{List, [], ◌∷◌}
 use mathlib.Core.Path.{◌≡◌, refl, sym, ap, ◌∙◌, fun_ext}
@@ -10,12 +10,11 @@ use Rattle.laws.specs.Greatest.{lesser, greater}
 use Rattle.laws.proofs.Greatests.{lesser_choice, greater_choice}
 use Rattle.laws.proofs.Tables.{get_d_tabulate}
 use Rattle.laws.proofs.Sole.{Sole, sole}
-use Rattle.verdict.specs.Verdict.{if_clear}
+use Rattle.verdict.specs.Verdict.{Verdict, clear, if_clear}
 use Rattle.verdict.specs.declared.Refusal.{Refusal}
-use Rattle.verdict.specs.declared.Verdict.{Verdict}
-use Rattle.verdict.specs.declared.Verdict.TheVariants as verdict
 use Rattle.verdict.proofs.Verdicts.{Tabled, RefusesCounting, refuses_counting, never_given}
-use Rattle.verdict.proofs.Answers.{counted-told}
+use Rattle.verdict.proofs.Answers.{counted_is_told}
+use Rattle.std.specs.Prelude.{Ok, Err}
 use Rattle.window.specs.Shape.{sites_of}
 use Rattle.window.specs.View.{surveyed, seen, above}
 use Rattle.window.proofs.Views.{Agree, same_view, seen_there, seen_elsewhere}
@@ -49,7 +48,7 @@ module _ (w h full : ℕ) (mask frame : List ℕ) (s : Stack) where
   -- the paper's numbers are those of the answer
   pub add_paper_is : add_paper_of (add_answer w h full mask frame s) ≡ add_paper w h full mask frame s
   unfolding add_answer add_paper
-  add_paper_is = counted-told add_paper_of (add_verdict w h full mask frame s) refl (λ r. refl)
+  add_paper_is = counted_is_told 0 (s.frames + 1) (add_verdict w h full mask frame s)
 
   -- given: 1 to 6, 11 and 12 exactly as documents 01 and 02 table them, in that order (`Adds.tests` has the table)
   pub add_given : Tabled (add_verdict w h full mask frame s) (adds.tests w h full mask frame s)
@@ -71,13 +70,13 @@ module _ (w h full : ℕ) (mask frame : List ℕ) (s : Stack) where
       none = seen_elsewhere mask frame i out
 
       by : (v : Verdict) → SameAt i (if_clear v (with_frame mask frame s) s) s
-      by verdict.Clear = record {
+      by (Ok _) = record {
         sum = renewed_keeps _ s.sums i (omega (arith, none));
         square = renewed_keeps _ s.squares i (rw none (omega arith));
         least = renewed_keeps _ s.least i (extreme_out lesser s.frames (get_or mask i 0) (get_or s.least i 0) (seen mask frame i) out);
         greatest = renewed_keeps _ s.greatest i (extreme_out greater s.frames (get_or mask i 0) (get_or s.greatest i 0) (seen mask frame i) out);
       }
-      by (verdict.Refused r) = record { sum = refl; square = refl; least = refl; greatest = refl }
+      by (Err r) = record { sum = refl; square = refl; least = refl; greatest = refl }
 
   -- blind: what a frame or a stack holds at unsurveyed sites changes nothing of the answer, no count either, nor what is written at surveyed ones
   module _ (frame' : List ℕ) (s' : Stack) (f : Agree mask frame frame') (a : AgreeStack mask s s') where
@@ -94,21 +93,21 @@ module _ (w h full : ℕ) (mask frame : List ℕ) (s : Stack) where
     add_blind_stack i inside = rw same_verdict (by (add_verdict w h full mask frame' s'))
       where
         by : (v : Verdict) → SameAt i (if_clear v (with_frame mask frame s) s) (if_clear v (with_frame mask frame' s') s')
-        by verdict.Clear = rw (same_view f, a.frames) (record {
+        by (Ok _) = rw (same_view f, a.frames) (record {
           sum = renewed-same _ s.sums s'.sums i a.sums.long (a.sums.same i inside);
           square = renewed-same _ s.squares s'.squares i a.squares.long (a.squares.same i inside);
           least = renewed-same _ s.least s'.least i a.least.long (a.least.same i inside);
           greatest = renewed-same _ s.greatest s'.greatest i a.greatest.long (a.greatest.same i inside);
         })
-        by (verdict.Refused r) = record { sum = a.sums.same i inside; square = a.squares.same i inside; least = a.least.same i inside; greatest = a.greatest.same i inside }
+        by (Err r) = record { sum = a.sums.same i inside; square = a.squares.same i inside; least = a.least.same i inside; greatest = a.greatest.same i inside }
 
 -- ---- runs of frames, from a stack of zeros, with one window, full scale and mask
 module _ (w h full : ℕ) (mask : List ℕ) where
   -- a frame that is refused leaves the stack as it was, all four buffers and the count
-  pub run_refused : (s : Stack) (frame : List ℕ) (r : Refusal) → add_verdict w h full mask frame s ≡ verdict.Refused r → add_stack w h full mask frame s ≡ s
+  pub run_refused : (s : Stack) (frame : List ℕ) (r : Refusal) → add_verdict w h full mask frame s ≡ Err r → add_stack w h full mask frame s ≡ s
   run_refused s frame r e = adds.refused_stack w h full mask frame s r e
 
-  module _ (fs : List (List ℕ)) (clear : run_verdict w h full mask fs ≡ verdict.Clear) where
+  module _ (fs : List (List ℕ)) (clear : run_verdict w h full mask fs ≡ clear) where
     -- accepted frames are counted
     pub run_counts : (run w h full mask fs).frames ≡ length fs
     run_counts = ap (λ (s : Stack). s.frames) (run_is w h full mask fs clear)
@@ -141,7 +140,7 @@ module _ (w h full : ℕ) (mask : List ℕ) where
         (sum_out mask fs i out, square_out mask fs i out, extreme_none mask fs lesser_choice i out, extreme_none mask fs greater_choice i out)
 
   -- of a run of one frame or more, at a surveyed site: no frame has a sample below the least and some frame has it, and so of the greatest
-  pub run-extremes : (f : List ℕ) (fs : List (List ℕ)) → run_verdict w h full mask (f ∷ fs) ≡ verdict.Clear → (i : ℕ) → i < sites_of w h → get_or mask i 0 ≡ 0
+  pub run-extremes : (f : List ℕ) (fs : List (List ℕ)) → run_verdict w h full mask (f ∷ fs) ≡ clear → (i : ℕ) → i < sites_of w h → get_or mask i 0 ≡ 0
       → ExtremeOf (λ (x y : ℕ). x ≤ y) (f ∷ fs) (λ (g : List ℕ). get_or g i 0) (get_or (run w h full mask (f ∷ fs)).least i 0)
       × ExtremeOf (λ (x y : ℕ). y ≤ x) (f ∷ fs) (λ (g : List ℕ). get_or g i 0) (get_or (run w h full mask (f ∷ fs)).greatest i 0)
   run-extremes f fs clear i l e =
@@ -156,7 +155,7 @@ module _ (w h full : ℕ) (mask : List ℕ) where
 
   module _ (legal : Masked w h full mask) (fs : List (List ℕ)) (ranged : AllInRange (sites_of w h) full mask fs) (few : length fs ≤ 100) where
     -- a run of at most 100 frames in range is accepted
-    pub run_accepted : run_verdict w h full mask fs ≡ verdict.Clear
+    pub run_accepted : run_verdict w h full mask fs ≡ clear
     run_accepted = run_clear w h full mask legal fs ranged few
 
     -- and no call meets 11 on what it leaves
@@ -170,8 +169,8 @@ module _ (w h full : ℕ) (mask : List ℕ) where
         never_given (add_verdict w h full mask frame (run w h full mask fs)) (adds.table w h full mask frame (run w h full mask fs)) (rw run-possible) (omega arith) e
 
   -- accepted frames are accepted in any order, and give the same stack, all four buffers
-  pub run_order : (fs gs : List (List ℕ)) → Reordered fs gs → run_verdict w h full mask fs ≡ verdict.Clear
-      → (run_verdict w h full mask gs ≡ verdict.Clear) × (run w h full mask fs ≡ run w h full mask gs)
+  pub run_order : (fs gs : List (List ℕ)) → Reordered fs gs → run_verdict w h full mask fs ≡ clear
+      → (run_verdict w h full mask gs ≡ clear) × (run w h full mask fs ≡ run w h full mask gs)
   run_order [] [] order clear = (clear, refl)
   run_order [] (g ∷ gs) order clear = absurd (omega (arith, as_many order))
   run_order (f ∷ fs) gs order clear =

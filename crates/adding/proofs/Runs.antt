@@ -13,8 +13,7 @@ use Rattle.laws.specs.Table.{tabulate}
 use Rattle.laws.proofs.Cases.{true_or_false}
 use Rattle.laws.proofs.Greatests.{Choice, lesser_choice, greater_choice}
 use Rattle.laws.proofs.Tables.{length-tabulate, get_d_tabulate, tabulate_ext}
-use Rattle.verdict.specs.Verdict.{◌⨟◌}
-use Rattle.verdict.specs.declared.Verdict.TheVariants as verdict
+use Rattle.verdict.specs.Verdict.{clear}
 use Rattle.verdict.proofs.Verdicts.{then_clear, clear_then, clear_unless}
 use Rattle.window.specs.Shape.{sites_of}
 use Rattle.window.specs.View.{surveyed, seen}
@@ -98,7 +97,7 @@ module _ (w h full : ℕ) (mask : List ℕ) where
       )
 
   -- accepted frames leave their stack
-  pub run_is : (fs : List (List ℕ)) → run_verdict w h full mask fs ≡ verdict.Clear → run w h full mask fs ≡ of_frames fs
+  pub run_is : (fs : List (List ℕ)) → run_verdict w h full mask fs ≡ clear → run w h full mask fs ≡ of_frames fs
   unfolding run run_verdict over_frames extreme_over
   run_is [] e = refl
   run_is (f ∷ fs) e =
@@ -138,7 +137,7 @@ module _ (w h full : ℕ) (mask : List ℕ) where
         (λ i l. rw (sum_seen fs i l, square_seen fs i l, least_seen fs i l, greatest_seen fs i l) (possible_at a i l))
 
     -- and have a number for each site
-    pub stack_long : stack_lengths w h (of_frames fs) ≡ verdict.Clear
+    pub stack_long : stack_lengths w h (of_frames fs) ≡ clear
     stack_long =
         clear_lengths w h (of_frames fs)
         (record {
@@ -150,7 +149,7 @@ module _ (w h full : ℕ) (mask : List ℕ) where
 
     -- so a stack of fewer than 100 takes one more
     takes_more : Masked w h full mask → AllInRange (sites_of w h) full mask fs → length fs < 100 → (f : List ℕ) → InRange (sites_of w h) full mask f
-        → add_verdict w h full mask f (of_frames fs) ≡ verdict.Clear
+        → add_verdict w h full mask f (of_frames fs) ≡ clear
     unfolding add_verdict
     takes_more a r few f b =
         clear_then
@@ -158,8 +157,8 @@ module _ (w h full : ℕ) (mask : List ℕ) where
         (clear_then (clear_unless _ (possible_in r)) (clear_unless _ (ne_eqb (length fs) 100 (λ e. omega arith))))
 
   -- a run of at most 100 frames in range is accepted
-  pub run_clear : Masked w h full mask → (fs : List (List ℕ)) → AllInRange (sites_of w h) full mask fs → length fs ≤ 100 → run_verdict w h full mask fs ≡ verdict.Clear
-  unfolding run_verdict ◌⨟◌
+  pub run_clear : Masked w h full mask → (fs : List (List ℕ)) → AllInRange (sites_of w h) full mask fs → length fs ≤ 100 → run_verdict w h full mask fs ≡ clear
+  unfolding run_verdict
   run_clear a [] r few = refl
   run_clear a (f ∷ fs) r few =
       let before = run_clear a fs (rest_of r) (omega arith) in
@@ -175,7 +174,7 @@ module _ (w h full : ℕ) (mask : List ℕ) where
     pub ranged : AllInRange (sites_of w h) full mask fs
     pub few : length fs ≤ 100
 
-  taken-ranged : (fs : List (List ℕ)) → run_verdict w h full mask fs ≡ verdict.Clear → AllInRange (sites_of w h) full mask fs
+  taken-ranged : (fs : List (List ℕ)) → run_verdict w h full mask fs ≡ clear → AllInRange (sites_of w h) full mask fs
   unfolding run_verdict
   taken-ranged [] e = none
   taken-ranged (f ∷ fs) e =
@@ -183,7 +182,7 @@ module _ (w h full : ℕ) (mask : List ℕ) where
       let a = adds.accepted w h full mask f (run w h full mask fs) both.1 in
       more (record { long = a.lent.framed; ranged = a.lent.range }) (taken-ranged fs both.0)
 
-  pub taken : (f : List ℕ) (fs : List (List ℕ)) → run_verdict w h full mask (f ∷ fs) ≡ verdict.Clear → Taken (f ∷ fs)
+  pub taken : (f : List ℕ) (fs : List (List ℕ)) → run_verdict w h full mask (f ∷ fs) ≡ clear → Taken (f ∷ fs)
   unfolding run_verdict
   taken f fs e =
       let both = then_clear (run_verdict w h full mask fs) (add_verdict w h full mask f (run w h full mask fs)) e in

@@ -34,6 +34,20 @@ module _ (view : ℕ → ℕ) {d l : List ℕ} {i v : ℕ} (so_far : Filling (λ
   pub one_added : i < length l → Filling (λ (k : ℕ). get_or d k 0 + view k) d (set l i (get_or l i 0 + v)) (i + 1)
   one_added h = one_renewed (λ (k sum : ℕ). sum + view k) so_far sum_made h
 
+-- what an extreme becomes with no frames in, and with some
+module _ (choose : ℕ → ℕ → ℕ) (k before sample : ℕ) where
+  pub extreme_none_in : k ≡ 0 → extreme choose k before sample ≡ sample
+  unfolding extreme
+  extreme_none_in none = rw none
+
+  pub extreme_some_in : (k ≡ 0 → ⊥) → extreme choose k before sample ≡ choose before sample
+  unfolding extreme
+  extreme_some_in some = by k some
+    where
+      by : (m : ℕ) → (m ≡ 0 → ⊥) → extreme choose m before sample ≡ choose before sample
+      by zero none = absurd (none refl)
+      by (suc m) none = refl
+
 -- what a site's extreme becomes
 module _ (choose : ℕ → ℕ → ℕ) (k code before sample : ℕ) where
   pub extreme_out : (code ≡ 0 → ⊥) → extreme_at choose k code before sample ≡ before
@@ -44,17 +58,14 @@ module _ (choose : ℕ → ℕ → ℕ) (k code before sample : ℕ) where
   unfolding extreme_at
   extreme_in_lem inside = rw (eq-eqb code 0 inside)
 
-  pub extreme_first : code ≡ 0 → k ≡ 0 → extreme_at choose k code before sample ≡ sample
-  unfolding extreme
-  extreme_first inside none = extreme_in_lem inside ∙ rw none
-
-  pub extreme_later : code ≡ 0 → (k ≡ 0 → ⊥) → extreme_at choose k code before sample ≡ choose before sample
-  unfolding extreme
-  extreme_later inside some = extreme_in_lem inside ∙ by k some
+  -- by what is chosen of the two that are there
+  pub extreme_chosen : {chosen : ℕ} → chosen ≡ choose before sample → extreme_at (λ (x y : ℕ). chosen) k code before sample ≡ extreme_at choose k code before sample
+  unfolding extreme_at extreme
+  extreme_chosen {chosen} e = ap (λ (x : ℕ). cond (surveyed code) x before) (by k)
     where
-      by : (m : ℕ) → (m ≡ 0 → ⊥) → extreme choose m before sample ≡ choose before sample
-      by zero none = absurd (none refl)
-      by (suc m) none = refl
+      by : (m : ℕ) → extreme (λ (x y : ℕ). chosen) m before sample ≡ extreme choose m before sample
+      by zero = refl
+      by (suc m) = e
 
   -- by the sample as it is seen
   pub extreme_seen : extreme_at choose k code before sample ≡ extreme_at choose k code before (seen_at code sample)

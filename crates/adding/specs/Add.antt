@@ -1,30 +1,28 @@
 -- Document 01, "Stack", as document 02 i amends it: what `stack_add` answers and leaves.
-use Rattle.std.specs.Prelude.{ℕ, ◌+◌, List, eqb, ltb}
-use Rattle.verdict.specs.Verdict.{◌⨟◌, refuse_if, if_clear}
-use Rattle.verdict.specs.Answer.{answer_of, CountedPaper, accepted_counted, refused_counted, counted_for}
-use Rattle.verdict.specs.declared.Verdict.{Verdict}
+use Rattle.std.specs.Prelude.{ℕ, ◌+◌, List, eqb, ltb, Result}
+use Rattle.verdict.specs.declared.Refusal.{Refusal}
+use Rattle.verdict.specs.Verdict.{Verdict, ◌⨟◌, refuse_if, if_clear}
+use Rattle.verdict.specs.Answer.{answer_of, CountedPaper, answer_counted, counted_for}
+use Rattle.verdict.specs.declared.Refusal.TheVariants.{Parameter, Impossible, StackFull}
 use Rattle.window.specs.Shape.{sites_of}
 use Rattle.refusals.specs.Judge.{frame_verdict}
 use Rattle.stack.specs.State.{Stack, stack_lengths, impossible_in}
 use Rattle.adding.specs.After.{with_frame}
-use Rattle.adding.specs.declared.Added.{Added}
-use Rattle.adding.specs.declared.Added.TheVariants.{Frames, Refused}
 
 -- the refusals in their order: 1 to 6, 3 of the count, 4 of the stack's buffers too, then 11 and 12
 unfoldable pub add_verdict : ℕ → ℕ → ℕ → List ℕ → List ℕ → Stack → Verdict
 add_verdict w h full mask frame s =
-    frame_verdict w h full (refuse_if 3 0 (ltb 100 s.frames)) mask frame (stack_lengths w h s)
-    ⨟ refuse_if 11 0 (impossible_in (sites_of w h) full mask s)
-    ⨟ refuse_if 12 0 (eqb s.frames 100)
+    frame_verdict w h full (refuse_if Parameter (ltb 100 s.frames)) mask frame (stack_lengths w h s)
+    ⨟ refuse_if Impossible (impossible_in (sites_of w h) full mask s)
+    ⨟ refuse_if StackFull (eqb s.frames 100)
 
 -- the answer: k + 1, or the refusal
-unfoldable pub add_answer : ℕ → ℕ → ℕ → List ℕ → List ℕ → Stack → Added
-add_answer w h full mask frame s = answer_of (add_verdict w h full mask frame s) (Frames (s.frames + 1)) Refused
+unfoldable pub add_answer : ℕ → ℕ → ℕ → List ℕ → List ℕ → Stack → Result ℕ Refusal
+add_answer w h full mask frame s = answer_of (add_verdict w h full mask frame s) (s.frames + 1)
 
 -- the paper's numbers of an answer
-abbrev pub add_paper_of : Added → CountedPaper ℕ
-add_paper_of (Frames k) = accepted_counted k
-add_paper_of (Refused r) = refused_counted r 0
+abbrev pub add_paper_of : Result ℕ Refusal → CountedPaper ℕ
+add_paper_of = answer_counted 0
 
 -- the paper's numbers for all inputs
 unfoldable pub add_paper : ℕ → ℕ → ℕ → List ℕ → List ℕ → Stack → CountedPaper ℕ

@@ -1,9 +1,7 @@
 -- Document 01, "Stack", as document 02 i amends it: frames added one after the other, from zeros, with one shape, mask and full scale throughout.
 use Rattle.std.specs.Prelude.{ℕ, ◌+◌, List, [], ◌∷◌}
 use Rattle.laws.specs.Table.{tabulate}
-use Rattle.verdict.specs.Verdict.{◌⨟◌}
-use Rattle.verdict.specs.declared.Verdict.{Verdict}
-use Rattle.verdict.specs.declared.Verdict.TheVariants as verdict
+use Rattle.verdict.specs.Verdict.{Verdict, clear, ◌⨟◌}
 use Rattle.window.specs.Shape.{sites_of}
 use Rattle.stack.specs.State.{Stack, stack_of}
 use Rattle.adding.specs.Add.{add_verdict, add_stack}
@@ -20,7 +18,7 @@ module _ (w h full : ℕ) (mask : List ℕ) where
 
   -- the first refusal in a run, and clear where every frame is accepted
   unfoldable pub run_verdict : List (List ℕ) → Verdict
-  run_verdict [] = verdict.Clear
+  run_verdict [] = clear
   run_verdict (frame ∷ frames) = run_verdict frames ⨟ add_verdict w h full mask frame (run frames)
 
 -- the sum over a run of frames of a number that each has

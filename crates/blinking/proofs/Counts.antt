@@ -1,6 +1,6 @@
 -- How many sites blink: what the count owes to each site.
 use Prim.Native.Nat.{ℕ, ◌-◌, ◌≤◌}
-use mathlib.Core.Bool.{Bool, true, false, cond, ◌&&◌}
+use mathlib.Core.Bool.{Bool, true, false, ◌&&◌}
 use mathlib.Core.List.{List}
 use mathlib.Core.Path.{◌≡◌, refl, ap₂}
 use native.Mathlib.Nat.{le_trans}
@@ -19,12 +19,6 @@ use Rattle.blinking.specs.Blinking.{blinks_at, blinks}
 pub where_surveyed : (t : Bool) {a b : Bool} → (t ≡ true → a ≡ b) → (t && a) ≡ (t && b)
 where_surveyed true e = e refl
 where_surveyed false e = refl
-
--- what a site adds to the count, by the test of its spread
-pub site_counts : (spread code least greatest d : ℕ) (b : Bool) → d ≡ greatest - least → (surveyed code && leb spread d) ≡ b
-    → ◌≡◌ {A = ℕ} (cond b 1 0) (cond (blinks_at spread code least greatest) 1 0)
-unfolding blinks_at
-site_counts spread code least greatest d b e told = rw (← e, told)
 
 -- a site that blinks at a spread blinks at any lesser one
 blinks_below : (a b code least greatest : ℕ) → a ≤ b → blinks_at b code least greatest ≡ true → blinks_at a code least greatest ≡ true

@@ -12,7 +12,8 @@ use Rattle.laws.proofs.Firsts.{count_ext}
 use Rattle.laws.proofs.Sole.{Sole, sole}
 use Rattle.laws.proofs.Sums.{sum-zero, zero_terms}
 use Rattle.verdict.proofs.Verdicts.{Tabled, Refuses, refuses}
-use Rattle.verdict.proofs.Answers.{paper_told}
+use Rattle.verdict.proofs.Answers.{paper_is_told}
+use Rattle.std.specs.Prelude.{Ok}
 use Rattle.window.specs.Shape.{sites_of}
 use Rattle.window.specs.View.{seen, one}
 use Rattle.window.proofs.Views.{seen_there, seen_counted}
@@ -25,7 +26,6 @@ use Rattle.adding.proofs.Frames.{InRange, AllInRange, range_repeated}
 use Rattle.adding.proofs.Runs.{run_leaves, stack_long}
 use Rattle.adding.proofs.Promises.{run_counts, run-extremes, run_accepted, run-possible}
 use Rattle.blinking.specs.Blinking.{blinks, blinking_verdict, blinking_count, blinking_answer, blinking_paper_of, blinking_paper}
-use Rattle.blinking.specs.declared.Blinking.TheVariants.{Sites}
 use Rattle.blinking.specs.Jumps.{jumps}
 use Rattle.blinking.proofs.Blinkings.{is_spread, tests, table, Lent, not_refused, answer_is}
 use Rattle.blinking.proofs.Counts.{fewer_blinking, blinking_surveyed, same_blinking}
@@ -39,7 +39,7 @@ module _ (w h full spread : ℕ) (mask : List ℕ) (s : Stack) where
   -- the paper's numbers are those of the answer
   pub paper_is : blinking_paper_of (blinking_answer w h full spread mask s) ≡ blinking_paper w h full spread mask s
   unfolding blinking_answer blinking_paper
-  paper_is = paper_told blinking_paper_of (blinking_verdict w h full spread mask s) refl (λ r. refl)
+  paper_is = paper_is_told 0 (blinking_count w h spread mask s) (blinking_verdict w h full spread mask s)
 
   -- given: 1 to 5 and 11 exactly as document 02 i names them, in that order (`tests` has the table)
   pub given : Tabled (blinking_verdict w h full spread mask s) (tests w h full spread mask s)
@@ -63,7 +63,7 @@ module _ (w h full spread : ℕ) (mask : List ℕ) (s : Stack) where
       )
 
   -- none_surveyed: where no site is surveyed, what 1 to 5 let pass gets the count 0: there is no 7, and 11 asks nothing there
-  pub none_surveyed : Lent w h full spread mask s → sum_to (sites_of w h) (one mask) ≡ 0 → blinking_answer w h full spread mask s ≡ Sites 0
+  pub none_surveyed : Lent w h full spread mask s → sum_to (sites_of w h) (one mask) ≡ 0 → blinking_answer w h full spread mask s ≡ Ok 0
   unfolding blinking_answer
   none_surveyed lent none =
       let possible = none_impossible (sites_of w h) full mask s
@@ -77,7 +77,7 @@ module _ (w h full spread : ℕ) (mask : List ℕ) (s : Stack) where
           omega (arith, most, mul-zero (seen mask buffer i))
 
   -- of an accepted call with the count n
-  module _ (n : ℕ) (answer : blinking_answer w h full spread mask s ≡ Sites n) where
+  module _ (n : ℕ) (answer : blinking_answer w h full spread mask s ≡ Ok n) where
     -- at a surveyed site the least is not above the greatest: no difference is cut off at 0
     pub spread_whole : (i : ℕ) → i < sites_of w h → get_or mask i 0 ≡ 0 → get_or s.least i 0 ≤ get_or s.greatest i 0
     spread_whole i l e =
@@ -104,7 +104,7 @@ module _ (w h full : ℕ) (mask : List ℕ) (s : Stack) (a b : ℕ) (low : 1 ≤
   refused_alike = rw (is_spread b (record { low = omega arith; high = high }), is_spread a (record { low = low; high = omega arith }))
 
   -- fewer: at the greater one never more sites blink
-  pub fewer : (m n : ℕ) → blinking_answer w h full a mask s ≡ Sites m → blinking_answer w h full b mask s ≡ Sites n → n ≤ m
+  pub fewer : (m n : ℕ) → blinking_answer w h full a mask s ≡ Ok m → blinking_answer w h full b mask s ≡ Ok n → n ≤ m
   fewer m n e f =
       rw ((answer_is w h full a mask s m e).1, (answer_is w h full b mask s n f).1)
       (fewer_blinking (sites_of w h) a b mask s.least s.greatest up)
@@ -121,7 +121,7 @@ module _ (w h full spread : ℕ) (mask : List ℕ) (legal : Masked w h full mask
 
   -- so the call is accepted, and counts these sites
   pub run_blinking : (fs : List (List ℕ)) → AllInRange (sites_of w h) full mask fs → 1 ≤ length fs → length fs ≤ 100
-      → blinking_answer w h full spread mask (run w h full mask fs) ≡ Sites (count_to (sites_of w h) (jumps spread mask fs))
+      → blinking_answer w h full spread mask (run w h full mask fs) ≡ Ok (count_to (sites_of w h) (jumps spread mask fs))
   unfolding blinking_answer
   run_blinking fs ranged some few =
       let s = run w h full mask fs in
@@ -139,8 +139,8 @@ module _ (w h full spread : ℕ) (mask : List ℕ) (legal : Masked w h full mask
 
   -- so equal frames have none
   pub run_equal : (k : ℕ) (frame : List ℕ) → InRange (sites_of w h) full mask frame → 1 ≤ k → k ≤ 100
-      → blinking_answer w h full spread mask (run w h full mask (replicate k frame)) ≡ Sites 0
+      → blinking_answer w h full spread mask (run w h full mask (replicate k frame)) ≡ Ok 0
   run_equal k frame ranged some few =
       let many = length-replicate k frame in
       run_blinking (replicate k frame) (range_repeated k ranged) (omega (arith, many)) (omega (arith, many))
-      ∙ ap Sites (sum-zero (sites_of w h) (λ (i : ℕ). cond (jumps spread mask (replicate k frame) i) 1 0) (λ i l. rw (equal_still spread i low k mask frame)))
+      ∙ ap Ok (sum-zero (sites_of w h) (λ (i : ℕ). cond (jumps spread mask (replicate k frame) i) 1 0) (λ i l. rw (equal_still spread i low k mask frame)))

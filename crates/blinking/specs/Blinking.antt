@@ -1,15 +1,14 @@
 -- Document 02, i: sites that jump between levels while their mean looks healthy, and what `blinking_sites` answers.
-use Rattle.std.specs.Prelude.{ℕ, ◌-◌, Bool, ◌||◌, ◌&&◌, List, eqb, ltb, leb, get_or}
+use Rattle.std.specs.Prelude.{ℕ, ◌-◌, Bool, ◌||◌, ◌&&◌, List, eqb, ltb, leb, get_or, Result}
 use Rattle.laws.specs.First.{count_to}
-use Rattle.verdict.specs.Verdict.{◌⨟◌, refuse_if}
-use Rattle.verdict.specs.Answer.{answer_of, Paper, accepted_paper, refused_paper, paper_for}
-use Rattle.verdict.specs.declared.Verdict.{Verdict}
+use Rattle.verdict.specs.Verdict.{Verdict, ◌⨟◌, refuse_if}
+use Rattle.verdict.specs.Answer.{answer_of, Paper, answer_paper, paper_for}
+use Rattle.verdict.specs.declared.Refusal.{Refusal}
+use Rattle.verdict.specs.declared.Refusal.TheVariants.{Parameter, Impossible}
 use Rattle.window.specs.Shape.{sites_of, bad_count}
 use Rattle.window.specs.View.{surveyed}
 use Rattle.refusals.specs.Judge.{mask_verdict}
 use Rattle.stack.specs.State.{Stack, stack_lengths, impossible_in}
-use Rattle.blinking.specs.declared.Blinking.{Blinking}
-use Rattle.blinking.specs.declared.Blinking.TheVariants.{Sites, Refused}
 
 -- 3: a spread that is not 1 to 4,095
 unfoldable pub bad_spread : ℕ → Bool
@@ -27,22 +26,20 @@ blinks spread mask least greatest i = blinks_at spread (get_or mask i 0) (get_or
 -- the refusals in their order: 1 to 5, where 3 asks the spread and the frame count, and 4 the stack's buffers too, then 11
 unfoldable pub blinking_verdict : ℕ → ℕ → ℕ → ℕ → List ℕ → Stack → Verdict
 blinking_verdict w h full spread mask s =
-    mask_verdict w h full (refuse_if 3 0 (bad_spread spread || bad_count s.frames)) mask (stack_lengths w h s)
-    ⨟ refuse_if 11 0 (impossible_in (sites_of w h) full mask s)
+    mask_verdict w h full (refuse_if Parameter (bad_spread spread || bad_count s.frames)) mask (stack_lengths w h s)
+    ⨟ refuse_if Impossible (impossible_in (sites_of w h) full mask s)
 
 -- how many sites blink
 abbrev pub blinking_count : ℕ → ℕ → ℕ → List ℕ → Stack → ℕ
 blinking_count w h spread mask s = count_to (sites_of w h) (blinks spread mask s.least s.greatest)
 
 -- the answer: the count, or the refusal
-unfoldable pub blinking_answer : ℕ → ℕ → ℕ → ℕ → List ℕ → Stack → Blinking
-blinking_answer w h full spread mask s =
-    answer_of (blinking_verdict w h full spread mask s) (Sites (blinking_count w h spread mask s)) Refused
+unfoldable pub blinking_answer : ℕ → ℕ → ℕ → ℕ → List ℕ → Stack → Result ℕ Refusal
+blinking_answer w h full spread mask s = answer_of (blinking_verdict w h full spread mask s) (blinking_count w h spread mask s)
 
 -- the paper's numbers of an answer
-abbrev pub blinking_paper_of : Blinking → Paper ℕ
-blinking_paper_of (Sites count) = accepted_paper count
-blinking_paper_of (Refused r) = refused_paper r 0
+abbrev pub blinking_paper_of : Result ℕ Refusal → Paper ℕ
+blinking_paper_of = answer_paper 0
 
 -- the paper's numbers for all inputs
 unfoldable pub blinking_paper : ℕ → ℕ → ℕ → ℕ → List ℕ → Stack → Paper ℕ

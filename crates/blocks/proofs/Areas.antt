@@ -102,3 +102,7 @@ module _ (w h : ℕ) (plane k : ℕ) (last : k ≤ blocks_of w h) where
 
   pub entry_area_lem : entry_area w h (entry_at w h plane k) ≡ k
   entry_area_lem = digits_mod plane (omega arith)
+
+-- a legal window has a column
+pub some_width : (w h : ℕ) → bad_sides w h ≡ false → 0 < w
+some_width w h legal = omega (arith, (sides w h legal).wide.low)

@@ -6,7 +6,7 @@ use native.Mathlib.Nat.{le_trans}
 use native.Mathlib.Omega.{arith}
 use lib.ListN.{length}
 use Rattle.laws.specs.Table.{held}
-use Rattle.verdict.specs.declared.Verdict.TheVariants as verdict
+use Rattle.verdict.specs.Verdict.{clear}
 use Rattle.window.specs.View.{seen_at}
 use Rattle.window.proofs.Sides.{scale}
 use Rattle.window.proofs.Views.{seen_le}
@@ -30,8 +30,8 @@ module _ (w h full site code : ℕ) (mask frame totals counts : List ℕ) (a : R
   here : held M site ≡ code
   here = recoded_here site code mask (omega (arith, a.inside, a.masked))
 
-  clear : recode_verdict w h full site (held mask site) M frame (length T) (length C) ≡ verdict.Clear
-  clear =
+  judged : recode_verdict w h full site (held mask site) M frame (length T) (length C) ≡ clear
+  judged =
       recoding_clear w h full site (held mask site) M frame (length T) (length C)
       (record {
         legal = a.legal;
@@ -51,9 +51,9 @@ module _ (w h full site code : ℕ) (mask frame totals counts : List ℕ) (a : R
   pub back : Makes w h full site (held mask site) frame M T C mask totals counts
   back =
       let high = (scale full a.scaled).high in
-      let again = recode_accepted w h full M frame T C site (held mask site) clear in
+      let again = recode_accepted w h full M frame T C site (held mask site) judged in
       record {
-        accepted = recode_done w h full site (held mask site) M frame (length T) (length C) clear;
+        accepted = recode_done w h full site (held mask site) M frame (length T) (length C) judged;
         makes_mask = sym again.1.1.0 ∙ recoded_back site code mask (omega (arith, a.inside, a.masked));
         makes_totals =
             sym again.1.1.1.0

@@ -10,10 +10,12 @@ use lib.ListN.{length}
 use borrow.Author.Tests.{eqb-true, ltb-false, le-ltb, leb-false, lt-leb}
 use Rattle.laws.specs.Table.{held}
 use Rattle.laws.proofs.Cases.{neither}
-use Rattle.verdict.specs.Verdict.{refusal_over}
-use Rattle.verdict.specs.declared.Verdict.TheVariants as verdict
+use Rattle.std.specs.Prelude.{Ok}
+use Rattle.verdict.specs.Verdict.{clear}
+use Rattle.verdict.specs.Answer.{nothing}
 use Rattle.verdict.proofs.Verdicts.{Test, Tabled, test, tabled, tabled_none, tabled_then, then_clear, clear_then, unless, clear_unless}
 use Rattle.verdict.proofs.Answers.{was_accepted}
+use Rattle.verdict.specs.declared.Refusal.TheVariants.{Sides, FullScale, Parameter, Length, Code, Over, TooSmall}
 use Rattle.window.specs.Shape.{bad_sides, bad_scale, sites_of}
 use Rattle.window.specs.View.{surveyed, seen_at, seen}
 use Rattle.refusals.specs.Judge.{other_than}
@@ -24,19 +26,18 @@ use Rattle.colour.specs.Centre.{too_small}
 use Rattle.blocks.specs.Areas.{entries_of, table_lengths}
 use Rattle.blocks.specs.Table.{table_verdict, table_answer}
 use Rattle.blocks.specs.Recode.{bad_codes, over_either, recode_verdict, recode_answer}
-use Rattle.blocks.specs.declared.Shaded.TheVariants.{Done}
 
 -- totals and counts that 4 does not refuse
 module _ (w h totals counts : ℕ) where
-  lengths_clear : table_lengths w h totals counts ≡ verdict.Clear → (totals ≡ entries_of w h) × (counts ≡ entries_of w h)
+  lengths_clear : table_lengths w h totals counts ≡ clear → (totals ≡ entries_of w h) × (counts ≡ entries_of w h)
   lengths_clear e =
       let both = then_clear _ _ e in
       (length_clear (entries_of w h) totals both.0, length_clear (entries_of w h) counts both.1)
 
-  clear_lengths : totals ≡ entries_of w h → counts ≡ entries_of w h → table_lengths w h totals counts ≡ verdict.Clear
+  clear_lengths : totals ≡ entries_of w h → counts ≡ entries_of w h → table_lengths w h totals counts ≡ clear
   clear_lengths t c = clear_then (clear_length (entries_of w h) totals t) (clear_length (entries_of w h) counts c)
 
-  lengths_tabled : Tabled (table_lengths w h totals counts) (test 4 0 (other_than (entries_of w h) totals) ∷ test 4 0 (other_than (entries_of w h) counts) ∷ [])
+  lengths_tabled : Tabled (table_lengths w h totals counts) (test Length (other_than (entries_of w h) totals) ∷ test Length (other_than (entries_of w h) counts) ∷ [])
   lengths_tabled = tabled_then (tabled _ []) (tabled _ [])
 
 -- ---- shading_table
@@ -44,15 +45,15 @@ module _ (w h full : ℕ) (mask frame : List ℕ) (totals counts : ℕ) where
   -- the tests in the order of document 02
   abbrev pub table_tests : List Test
   table_tests =
-      test 1 0 (bad_sides w h)
-      ∷ test 2 0 (bad_scale full)
-      ∷ test 4 0 (other_than (sites_of w h) (length mask))
-      ∷ test 4 0 (other_than (sites_of w h) (length frame))
-      ∷ test 4 0 (other_than (entries_of w h) totals)
-      ∷ test 4 0 (other_than (entries_of w h) counts)
+      test Sides (bad_sides w h)
+      ∷ test FullScale (bad_scale full)
+      ∷ test Length (other_than (sites_of w h) (length mask))
+      ∷ test Length (other_than (sites_of w h) (length frame))
+      ∷ test Length (other_than (entries_of w h) totals)
+      ∷ test Length (other_than (entries_of w h) counts)
       ∷ codes_test (sites_of w h) mask
       ∷ samples_test w h full (seen mask frame ∷ []) (seen mask frame)
-      ∷ test 9 0 (too_small w h)
+      ∷ test TooSmall (too_small w h)
       ∷ []
 
   pub table_tabled : Tabled (table_verdict w h full mask frame totals counts) table_tests
@@ -66,7 +67,7 @@ module _ (w h full : ℕ) (mask frame : List ℕ) (totals counts : ℕ) where
     pub counted : counts ≡ entries_of w h
     pub large : too_small w h ≡ false
 
-  pub tabling : table_verdict w h full mask frame totals counts ≡ verdict.Clear → Tabling
+  pub tabling : table_verdict w h full mask frame totals counts ≡ clear → Tabling
   unfolding table_verdict
   tabling e =
       let both = then_clear _ _ e in
@@ -75,17 +76,17 @@ module _ (w h full : ℕ) (mask frame : List ℕ) (totals counts : ℕ) where
       record { lent = passed.2; totalled = long.0; counted = long.1; large = unless _ (too_small w h) both.1 }
 
   -- and what has it is accepted
-  pub tabling_clear : Tabling → table_verdict w h full mask frame totals counts ≡ verdict.Clear
+  pub tabling_clear : Tabling → table_verdict w h full mask frame totals counts ≡ clear
   unfolding table_verdict
   tabling_clear a =
       clear_then (clear_frame w h full mask frame a.lent refl (clear_lengths w h totals counts a.totalled a.counted))
       (clear_unless _ a.large)
 
-  pub table_clear : table_answer w h full mask frame totals counts ≡ Done → table_verdict w h full mask frame totals counts ≡ verdict.Clear
+  pub table_clear : table_answer w h full mask frame totals counts ≡ Ok nothing → table_verdict w h full mask frame totals counts ≡ clear
   unfolding table_answer
-  table_clear e = (was_accepted (table_verdict w h full mask frame totals counts) (λ r f. let z : ◌≡◌ {A = ℕ} 0 1 = cc in omega arith) e).0
+  table_clear e = (was_accepted (table_verdict w h full mask frame totals counts) e).0
 
-  pub table_done : table_verdict w h full mask frame totals counts ≡ verdict.Clear → table_answer w h full mask frame totals counts ≡ Done
+  pub table_done : table_verdict w h full mask frame totals counts ≡ clear → table_answer w h full mask frame totals counts ≡ Ok nothing
   unfolding table_answer
   table_done e = rw e
 
@@ -132,16 +133,16 @@ module _ (w h full site code : ℕ) (mask frame : List ℕ) (totals counts : ℕ
   -- the tests in the order of document 02: 5 and 6 are asked of the site alone, and have it as place
   abbrev pub recode_tests : List Test
   recode_tests =
-      test 1 0 (bad_sides w h)
-      ∷ test 2 0 (bad_scale full)
-      ∷ test 3 0 (leb (sites_of w h) site)
-      ∷ test 4 0 (other_than (sites_of w h) (length mask))
-      ∷ test 4 0 (other_than (sites_of w h) (length frame))
-      ∷ test 4 0 (other_than (entries_of w h) totals)
-      ∷ test 4 0 (other_than (entries_of w h) counts)
-      ∷ test 5 site (ltb 3 (held mask site) || ltb 3 code)
-      ∷ record { refusal = refusal_over 6 site 1; applies = (surveyed (held mask site) || surveyed code) && ltb full (held frame site) }
-      ∷ test 9 0 (too_small w h)
+      test Sides (bad_sides w h)
+      ∷ test FullScale (bad_scale full)
+      ∷ test Parameter (leb (sites_of w h) site)
+      ∷ test Length (other_than (sites_of w h) (length mask))
+      ∷ test Length (other_than (sites_of w h) (length frame))
+      ∷ test Length (other_than (entries_of w h) totals)
+      ∷ test Length (other_than (entries_of w h) counts)
+      ∷ test (Code site) (ltb 3 (held mask site) || ltb 3 code)
+      ∷ test (Over site 1) ((surveyed (held mask site) || surveyed code) && ltb full (held frame site))
+      ∷ test TooSmall (too_small w h)
       ∷ []
 
   pub recode_tabled : Tabled (recode_verdict w h full site code mask frame totals counts) recode_tests
@@ -169,7 +170,7 @@ module _ (w h full site code : ℕ) (mask frame : List ℕ) (totals counts : ℕ
     pub new_low : seen_at code (held frame site) ≤ full
     pub large : too_small w h ≡ false
 
-  pub recoding : recode_verdict w h full site code mask frame totals counts ≡ verdict.Clear → Recoding
+  pub recoding : recode_verdict w h full site code mask frame totals counts ≡ clear → Recoding
   unfolding recode_verdict
   recoding e =
       let shape = then_clear _ _ e in
@@ -199,7 +200,7 @@ module _ (w h full site code : ℕ) (mask frame : List ℕ) (totals counts : ℕ
       }
 
   -- and what has it is accepted
-  pub recoding_clear : Recoding → recode_verdict w h full site code mask frame totals counts ≡ verdict.Clear
+  pub recoding_clear : Recoding → recode_verdict w h full site code mask frame totals counts ≡ clear
   unfolding recode_verdict
   recoding_clear a =
       clear_then (clear_shape w h full a.legal a.scaled)
@@ -212,10 +213,10 @@ module _ (w h full site code : ℕ) (mask frame : List ℕ) (totals counts : ℕ
       (clear_unless _ (low_samples full (held mask site) code (held frame site) a.old_low a.new_low)))
       (clear_unless _ a.large))))))
 
-  pub recode_clear : recode_answer w h full site code mask frame totals counts ≡ Done → recode_verdict w h full site code mask frame totals counts ≡ verdict.Clear
+  pub recode_clear : recode_answer w h full site code mask frame totals counts ≡ Ok nothing → recode_verdict w h full site code mask frame totals counts ≡ clear
   unfolding recode_answer
-  recode_clear e = (was_accepted (recode_verdict w h full site code mask frame totals counts) (λ r f. let z : ◌≡◌ {A = ℕ} 0 1 = cc in omega arith) e).0
+  recode_clear e = (was_accepted (recode_verdict w h full site code mask frame totals counts) e).0
 
-  pub recode_done : recode_verdict w h full site code mask frame totals counts ≡ verdict.Clear → recode_answer w h full site code mask frame totals counts ≡ Done
+  pub recode_done : recode_verdict w h full site code mask frame totals counts ≡ clear → recode_answer w h full site code mask frame totals counts ≡ Ok nothing
   unfolding recode_answer
   recode_done e = rw e

@@ -7,13 +7,15 @@ use mathlib.Core.Path.{◌≡◌, refl, ap, ◌∙◌}
 use native.Mathlib.Nat.{mul_comm}
 use native.Mathlib.Omega.{arith}
 use lib.ListN.{length}
+use Rattle.std.specs.Prelude.{Ok}
+use Rattle.verdict.specs.Answer.{nothing}
 use Rattle.laws.specs.First.{count_to}
 use Rattle.laws.specs.Table.{held}
 use Rattle.laws.proofs.Cases.{lt_or_ge}
 use Rattle.laws.proofs.Tables.{get_d_tabulate}
 use Rattle.laws.proofs.Sole.{Sole, sole}
 use Rattle.verdict.proofs.Verdicts.{Tabled, RefusesCounting, no_six, also, refuses_counting}
-use Rattle.verdict.proofs.Answers.{counted-told}
+use Rattle.verdict.proofs.Answers.{counted_is_told}
 use Rattle.window.specs.Shape.{bad_sides, sites_of}
 use Rattle.window.specs.View.{seen_at, seen, one, above}
 use Rattle.window.proofs.Sides.{sides}
@@ -24,7 +26,6 @@ use Rattle.plane.specs.Plane.{plane_of, plane_row, plane_column}
 use Rattle.blocks.specs.Areas.{blocks_of, block_of, area_sites, entries_of, entry_area, lies_in}
 use Rattle.blocks.specs.Table.{entry_sum, table_verdict, table_answer, paper_of, table_paper, table_totals, table_counts}
 use Rattle.blocks.specs.Recode.{over_either, amend, recode_verdict, recode_answer, recode_paper, recode_mask, recode_totals, recode_counts}
-use Rattle.blocks.specs.declared.Shaded.TheVariants.{Done}
 use Rattle.blocks.proofs.Judged.{table_tests, table_tabled, over_same, recode_tests, recode_tabled}
 use Rattle.blocks.proofs.Sites.{Lies, lies_in_lem, lies_not, entry_few, entry_at_most}
 use Rattle.blocks.proofs.Grid.{InBlock, InCentre, lies_in_block, block_lies, lies_in_centre, centre_lies}
@@ -44,7 +45,7 @@ module _ (w h full : ℕ) (mask frame totals counts : List ℕ) where
   -- the paper's numbers are those of the answer
   pub table_paper_is : paper_of (table_answer w h full mask frame (length totals) (length counts)) ≡ table_paper w h full mask frame (length totals) (length counts)
   unfolding table_answer table_paper
-  table_paper_is = counted-told paper_of (table_verdict w h full mask frame (length totals) (length counts)) refl (λ r. refl)
+  table_paper_is = counted_is_told nothing nothing (table_verdict w h full mask frame (length totals) (length counts))
 
   -- given: 1, 2, 4, 5, 6 and 9 exactly as document 02 tables them, in that order (`table_tests` has the table)
   pub table_given : Tabled (table_verdict w h full mask frame (length totals) (length counts)) (table_tests w h full mask frame (length totals) (length counts))
@@ -68,7 +69,7 @@ module _ (w h full : ℕ) (mask frame totals counts : List ℕ) where
 
   -- an accepted call leaves the table of its mask and frame (`TableOf`): with any other buffers of the needed lengths it is accepted
   -- too, and leaves the same
-  pub table_of : table_answer w h full mask frame (length totals) (length counts) ≡ Done
+  pub table_of : table_answer w h full mask frame (length totals) (length counts) ≡ Ok nothing
       → TableOf w h full mask frame (table_totals w h full mask frame totals counts) (table_counts w h full mask frame totals counts)
   table_of done = summed_table w h full mask frame _ _ (made_summed w h full mask frame totals counts done)
 
@@ -115,7 +116,7 @@ module _ (w h full site code : ℕ) (mask frame totals counts : List ℕ) where
   -- the paper's numbers are those of the answer
   pub recode_paper_is : paper_of (recode_answer w h full site code mask frame (length totals) (length counts)) ≡ recode_paper w h full site code mask frame (length totals) (length counts)
   unfolding recode_answer recode_paper
-  recode_paper_is = counted-told paper_of (recode_verdict w h full site code mask frame (length totals) (length counts)) refl (λ r. refl)
+  recode_paper_is = counted_is_told nothing nothing (recode_verdict w h full site code mask frame (length totals) (length counts))
 
   -- given: 1 to 6 and 9 exactly as document 02 tables them, in that order, 5 and 6 of the site alone and with it as place (`recode_tests` has the table)
   pub recode_given : Tabled (recode_verdict w h full site code mask frame (length totals) (length counts)) (recode_tests w h full site code mask frame (length totals) (length counts))
@@ -259,7 +260,7 @@ module _ (w h full site code : ℕ) (frame mask totals counts mask' totals' coun
 
 -- recode after table: an accepted recode of a table just made leaves the table made afresh under the new mask, and that call is accepted too
 pub table_then_recode : (w h full site code : ℕ) (frame mask totals counts mask' totals' counts' : List ℕ)
-    → table_answer w h full mask frame (length totals) (length counts) ≡ Done
+    → table_answer w h full mask frame (length totals) (length counts) ≡ Ok nothing
     → Makes w h full site code frame mask (table_totals w h full mask frame totals counts) (table_counts w h full mask frame totals counts) mask' totals' counts'
     → TableOf w h full mask' frame totals' counts'
 table_then_recode w h full site code frame mask totals counts mask' totals' counts' done makes =

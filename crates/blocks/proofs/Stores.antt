@@ -2,14 +2,15 @@
 use Prim.Native.Nat.{ℕ, ◌+◌, ◌*◌, ◌/◌, ◌%◌, ◌≤◌, ◌<◌}
 use mathlib.Core.List.{List}
 use mathlib.Core.Logic.{⊎_elim}
-use mathlib.Core.Path.{◌≡◌, refl, sym, ap, ◌∙◌}
+use mathlib.Core.Path.{◌≡◌, refl, sym, ◌∙◌}
 use native.Mathlib.Nat.{mod-lt, div-add-mod', div-lt_iff_lt-mul}
 use native.Mathlib.Omega.{arith}
 use lib.Dec.{eqb}
 use lib.ListN.{length, set, get_or, length-set}
 use lib.Seq.{get_or-set_same, get_or-set_other}
 use borrow.Author.Tests.{eqb-true, eqb-false}
-use Rattle.laws.specs.Table.{tabulate}
+use Rattle.laws.specs.Table.{held, tabulate}
+use Rattle.blocks.specs.Walk.{stores}
 use Rattle.laws.proofs.Cases.{true_or_false, lt_or_ge}
 use Rattle.laws.proofs.Tables.{tabulated}
 
@@ -23,7 +24,7 @@ written f l at v e within is held =
 
 -- an entry of area k is in one of the four planes
 one_of_four : (areas k e : ℕ) → k < areas → e < 4 * areas → e % areas ≡ k
-    → (e ≡ k → ⊥) → (e ≡ areas + k → ⊥) → (e ≡ 2 * areas + k → ⊥) → (e ≡ 3 * areas + k → ⊥) → ⊥
+    → (e ≡ 0 * areas + k → ⊥) → (e ≡ 1 * areas + k → ⊥) → (e ≡ 2 * areas + k → ⊥) → (e ≡ 3 * areas + k → ⊥) → ⊥
 one_of_four areas k e last below is first second third fourth =
     ⊎_elim
     (λ a. first (omega (arith, at 0 (omega arith))))
@@ -50,24 +51,23 @@ stored_none f areas d = record { long = refl; stored = λ e below area. absurd (
 
 module _ {f : ℕ → ℕ} {areas : ℕ} {d l : List ℕ} {k : ℕ} where
   -- a turn of it
-  pub stored_more : (first second third fourth : ℕ) → Stored f areas d l k → k < areas → length d ≡ 4 * areas
-      → first ≡ f (0 * areas + k) → second ≡ f (1 * areas + k) → third ≡ f (2 * areas + k) → fourth ≡ f (3 * areas + k)
-      → Stored f areas d (set (set (set (set l k first) (areas + k) second) (2 * areas + k) third) (3 * areas + k) fourth) (k + 1)
-  stored_more first second third fourth r last long p q s t =
-      let l1 = set l k first in
-      let l2 = set l1 (areas + k) second in
-      let l3 = set l2 (2 * areas + k) third in
-      let long1 : length l1 ≡ 4 * areas = length-set l k first ∙ r.long ∙ long in
-      let long2 : length l2 ≡ 4 * areas = length-set l1 (areas + k) second ∙ long1 in
-      let long3 : length l3 ≡ 4 * areas = length-set l2 (2 * areas + k) third ∙ long2 in
-      let at0 : 0 * areas + k ≡ k = omega arith in
-      let at1 : 1 * areas + k ≡ areas + k = omega arith in
+  pub stored_more : (of_planes : List ℕ) → Stored f areas d l k → k < areas → length d ≡ 4 * areas
+      → held of_planes 0 ≡ f (0 * areas + k) → held of_planes 1 ≡ f (1 * areas + k) → held of_planes 2 ≡ f (2 * areas + k) → held of_planes 3 ≡ f (3 * areas + k)
+      → Stored f areas d (stores l areas k of_planes 4) (k + 1)
+  unfolding stores
+  stored_more of_planes r last long p q s t =
+      let l1 = set l (0 * areas + k) (held of_planes 0) in
+      let l2 = set l1 (1 * areas + k) (held of_planes 1) in
+      let l3 = set l2 (2 * areas + k) (held of_planes 2) in
+      let long1 : length l1 ≡ 4 * areas = length-set l (0 * areas + k) _ ∙ r.long ∙ long in
+      let long2 : length l2 ≡ 4 * areas = length-set l1 (1 * areas + k) _ ∙ long1 in
+      let long3 : length l3 ≡ 4 * areas = length-set l2 (2 * areas + k) _ ∙ long2 in
       record {
-        long = length-set l3 (3 * areas + k) fourth ∙ long3 ∙ sym long;
-        stored = λ e below area. written f l3 (3 * areas + k) fourth e (omega arith) t
-            (λ n3. written f l2 (2 * areas + k) third e (omega arith) s
-            (λ n2. written f l1 (areas + k) second e (omega arith) (q ∙ ap f at1)
-            (λ n1. written f l k first e (omega (arith, r.long)) (p ∙ ap f at0)
+        long = length-set l3 (3 * areas + k) _ ∙ long3 ∙ sym long;
+        stored = λ e below area. written f l3 (3 * areas + k) _ e (omega arith) t
+            (λ n3. written f l2 (2 * areas + k) _ e (omega arith) s
+            (λ n2. written f l1 (1 * areas + k) _ e (omega arith) q
+            (λ n1. written f l (0 * areas + k) _ e (omega (arith, r.long)) p
             (λ n0. ⊎_elim (λ m. r.stored e below m) (λ g. absurd (one_of_four areas k e last below (omega arith) n0 n1 n2 n3)) (lt_or_ge (e % areas) k)))));
       }
 

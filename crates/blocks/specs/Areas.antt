@@ -1,7 +1,7 @@
 -- Document 02 j: the areas of a plane, which are its blocks and its centre, and the table that has an entry for each.
 use Rattle.std.specs.Prelude.{ℕ, ◌+◌, ◌-◌, ◌*◌, ◌/◌, ◌%◌, Bool, cond, ◌&&◌, eqb, leb, ltb}
-use Rattle.verdict.specs.Verdict.{◌⨟◌, refuse_if}
-use Rattle.verdict.specs.declared.Verdict.{Verdict}
+use Rattle.verdict.specs.Verdict.{Verdict, ◌⨟◌, refuse_if}
+use Rattle.verdict.specs.declared.Refusal.TheVariants.{Length}
 use Rattle.window.specs.Shape.{bad_sides}
 use Rattle.refusals.specs.Judge.{other_than}
 use Rattle.plane.specs.Plane.{plane_of, plane_row, plane_column}
@@ -69,4 +69,4 @@ lies_in w h site e =
 -- 4 of a table's two buffers, by their lengths
 abbrev pub table_lengths : ℕ → ℕ → ℕ → ℕ → Verdict
 table_lengths w h totals counts =
-    refuse_if 4 0 (other_than (entries_of w h) totals) ⨟ refuse_if 4 0 (other_than (entries_of w h) counts)
+    refuse_if Length (other_than (entries_of w h) totals) ⨟ refuse_if Length (other_than (entries_of w h) counts)

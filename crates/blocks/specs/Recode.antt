@@ -1,16 +1,15 @@
 -- Document 02 j: what `shading_recode` answers and leaves in the mask and the table.
-use Rattle.std.specs.Prelude.{ℕ, ◌+◌, ◌-◌, ◌^◌, ◌%◌, Bool, cond, ◌&&◌, ◌||◌, List, eqb, ltb, leb, length}
+use Rattle.std.specs.Prelude.{ℕ, ◌+◌, ◌-◌, ◌^◌, ◌%◌, Bool, cond, ◌&&◌, ◌||◌, List, eqb, ltb, leb, length, Result}
 use Rattle.laws.specs.Table.{held, tabulate}
-use Rattle.verdict.specs.Verdict.{◌⨟◌, refusal_over, refuse_with, refuse_if, if_clear}
+use Rattle.verdict.specs.Verdict.{Verdict, ◌⨟◌, refuse_if, if_clear}
 use Rattle.verdict.specs.Answer.{answer_of, CountedPaper, counted_for, Nothing, nothing}
-use Rattle.verdict.specs.declared.Verdict.{Verdict}
+use Rattle.verdict.specs.declared.Refusal.{Refusal}
+use Rattle.verdict.specs.declared.Refusal.TheVariants.{Parameter, Code, Over, TooSmall}
 use Rattle.window.specs.Shape.{sites_of}
 use Rattle.window.specs.View.{surveyed, seen_at}
 use Rattle.refusals.specs.Judge.{shape_of, length_of}
 use Rattle.colour.specs.Centre.{too_small}
 use Rattle.blocks.specs.Areas.{lies_in, table_lengths}
-use Rattle.blocks.specs.declared.Shaded.{Shaded}
-use Rattle.blocks.specs.declared.Shaded.TheVariants.{Done, Refused}
 
 -- 5: the old or the new code is above 3
 unfoldable pub bad_codes : ℕ → ℕ → Bool
@@ -27,22 +26,22 @@ over_either full old new sample = either_surveyed old new && ltb full sample
 -- 5 and 6 of the site, both with the site as place; 6 counts one sample
 abbrev pub site_verdict : ℕ → ℕ → ℕ → ℕ → ℕ → Verdict
 site_verdict full site old new sample =
-    refuse_if 5 site (bad_codes old new) ⨟ refuse_with (refusal_over 6 site 1) (over_either full old new sample)
+    refuse_if (Code site) (bad_codes old new) ⨟ refuse_if (Over site 1) (over_either full old new sample)
 
 -- the refusals in their order: 1, 2, 3 of a site outside the window, 4 to 6, then 9
 unfoldable pub recode_verdict : ℕ → ℕ → ℕ → ℕ → ℕ → List ℕ → List ℕ → ℕ → ℕ → Verdict
 recode_verdict w h full site code mask frame totals counts =
     shape_of w h full
-    ⨟ refuse_if 3 0 (leb (sites_of w h) site)
+    ⨟ refuse_if Parameter (leb (sites_of w h) site)
     ⨟ length_of w h (length mask)
     ⨟ length_of w h (length frame)
     ⨟ table_lengths w h totals counts
     ⨟ site_verdict full site (held mask site) code (held frame site)
-    ⨟ refuse_if 9 0 (too_small w h)
+    ⨟ refuse_if TooSmall (too_small w h)
 
-unfoldable pub recode_answer : ℕ → ℕ → ℕ → ℕ → ℕ → List ℕ → List ℕ → ℕ → ℕ → Shaded
+unfoldable pub recode_answer : ℕ → ℕ → ℕ → ℕ → ℕ → List ℕ → List ℕ → ℕ → ℕ → Result Nothing Refusal
 recode_answer w h full site code mask frame totals counts =
-    answer_of (recode_verdict w h full site code mask frame totals counts) Done Refused
+    answer_of (recode_verdict w h full site code mask frame totals counts) nothing
 
 -- the paper's numbers for all inputs
 unfoldable pub recode_paper : ℕ → ℕ → ℕ → ℕ → ℕ → List ℕ → List ℕ → ℕ → ℕ → CountedPaper Nothing

@@ -1,17 +1,15 @@
 -- Document 02 j: what `shading_table` answers and leaves in the table.
-use Rattle.std.specs.Prelude.{ℕ, List, length}
+use Rattle.std.specs.Prelude.{ℕ, List, length, Result}
 use Rattle.laws.specs.Table.{tabulate}
-use Rattle.verdict.specs.Verdict.{◌⨟◌, refuse_if, if_clear}
-use Rattle.verdict.specs.Answer.{answer_of, CountedPaper, accepted_counted, refused_counted, counted_for, Nothing, nothing}
-use Rattle.verdict.specs.declared.Verdict.{Verdict}
-use Rattle.verdict.specs.declared.Verdict.TheVariants as verdict
+use Rattle.verdict.specs.Verdict.{Verdict, clear, ◌⨟◌, refuse_if, if_clear}
+use Rattle.verdict.specs.Answer.{answer_of, CountedPaper, answer_counted, counted_for, Nothing, nothing}
+use Rattle.verdict.specs.declared.Refusal.{Refusal}
+use Rattle.verdict.specs.declared.Refusal.TheVariants.{TooSmall}
 use Rattle.window.specs.View.{seen, one}
 use Rattle.refusals.specs.Judge.{frame_verdict}
 use Rattle.plane.specs.Plane.{box_sum}
 use Rattle.colour.specs.Centre.{too_small}
 use Rattle.blocks.specs.Areas.{area_of, entries_of, entry_plane, entry_area, table_lengths}
-use Rattle.blocks.specs.declared.Shaded.{Shaded}
-use Rattle.blocks.specs.declared.Shaded.TheVariants.{Done, Refused}
 
 -- a view summed over the area of entry e
 unfoldable pub entry_sum : ℕ → ℕ → (ℕ → ℕ) → ℕ → ℕ
@@ -24,18 +22,17 @@ entry_sums w h view = tabulate (entries_of w h) (entry_sum w h view)
 -- the refusals in their order: 1, 2, 4 (of the table too), 5, 6, then 9
 unfoldable pub table_verdict : ℕ → ℕ → ℕ → List ℕ → List ℕ → ℕ → ℕ → Verdict
 table_verdict w h full mask frame totals counts =
-    frame_verdict w h full verdict.Clear mask frame (table_lengths w h totals counts)
-    ⨟ refuse_if 9 0 (too_small w h)
+    frame_verdict w h full clear mask frame (table_lengths w h totals counts)
+    ⨟ refuse_if TooSmall (too_small w h)
 
 -- the answer: done, or the refusal
-unfoldable pub table_answer : ℕ → ℕ → ℕ → List ℕ → List ℕ → ℕ → ℕ → Shaded
+unfoldable pub table_answer : ℕ → ℕ → ℕ → List ℕ → List ℕ → ℕ → ℕ → Result Nothing Refusal
 table_answer w h full mask frame totals counts =
-    answer_of (table_verdict w h full mask frame totals counts) Done Refused
+    answer_of (table_verdict w h full mask frame totals counts) nothing
 
 -- the paper's numbers of an answer
-abbrev pub paper_of : Shaded → CountedPaper Nothing
-paper_of Done = accepted_counted nothing
-paper_of (Refused r) = refused_counted r nothing
+abbrev pub paper_of : Result Nothing Refusal → CountedPaper Nothing
+paper_of = answer_counted nothing
 
 -- the paper's numbers for all inputs
 unfoldable pub table_paper : ℕ → ℕ → ℕ → List ℕ → List ℕ → ℕ → ℕ → CountedPaper Nothing

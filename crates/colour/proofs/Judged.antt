@@ -2,18 +2,20 @@
 use Prim.Native.Nat.{ℕ, ◌*◌, ◌/◌, ◌≤◌, ◌<◌}
 use mathlib.Core.Bool.{false, ◌||◌}
 use mathlib.Core.List.{List, [], ◌∷◌}
-use mathlib.Core.Path.{◌≡◌, refl, ap, ◌∙◌}
+use mathlib.Core.Path.{◌≡◌, refl, sym, ap, ◌∙◌}
 use native.Mathlib.Nat.{le_trans}
 use native.Mathlib.Omega.{arith}
 use lib.Dec.{eqb, ltb}
 use lib.ListN.{length}
 use borrow.Author.Tests.{ltb-false, eqb-false}
 use Rattle.laws.proofs.Cases.{neither, times_le}
-use Rattle.verdict.specs.Verdict.{◌⨟◌}
+use Rattle.verdict.specs.Verdict.{clear}
 use Rattle.verdict.specs.declared.Refusal.{Refusal}
-use Rattle.verdict.specs.declared.Verdict.TheVariants as verdict
+use Rattle.verdict.specs.declared.Refusal.TheVariants as refusal
 use Rattle.verdict.proofs.Verdicts.{Test, Tabled, test, tabled, tabled_none, tabled_then, then_clear, unless}
-use Rattle.verdict.proofs.Answers.{was_accepted}
+use Rattle.verdict.proofs.Answers.{was_accepted, counted_is_told}
+use Rattle.verdict.specs.declared.Refusal.TheVariants.{FullScale, Parameter, Length, TooFew, TooSmall, TooDark}
+use Rattle.std.specs.Prelude.{Result, Ok, Err}
 use Rattle.window.specs.Shape.{bad_sides, bad_scale, sites_of}
 use Rattle.window.specs.View.{seen, one}
 use Rattle.window.proofs.Sides.{Sides, sides, scale}
@@ -24,10 +26,10 @@ use Rattle.plane.specs.Plane.{box_sums}
 use Rattle.plane.specs.declared.Sums.{Sums}
 use Rattle.colour.specs.Bayer.{mosaic_of, centres_of}
 use Rattle.colour.specs.Centre.{centre_of, too_small, centre_sums, some_empty}
-use Rattle.colour.specs.Colour.{above_black, not_above, ratio_of, centres_seen, lent_verdict, centres_verdict, colour_verdict, colour_answer, paper_of, colour_paper}
-use Rattle.colour.specs.declared.Centres.{Centres}
+use Rattle.colour.specs.Colour.{above_black, not_above, ratio_of, centres_seen, lent_verdict, centres_verdict, colour_verdict, colour_answer, figures, no_figures, paper_of, colour_paper}
+use Rattle.colour.specs.Mosaic.{Centres}
 use Rattle.colour.specs.declared.Ratio.{Ratio}
-use Rattle.colour.specs.declared.Colour.TheVariants.{OverGr, Refused}
+use Rattle.colour.specs.declared.Colours.{Colours}
 use Rattle.colour.proofs.Totals.{above_black_lem}
 use Rattle.colour.proofs.Shown.{shown_whole, few, low}
 
@@ -59,17 +61,17 @@ module _ (w h full black order : ℕ) (mask frame : List ℕ) where
   -- the tests in the order of document 01, 9 before 7
   abbrev pub tests : List Test
   tests =
-      test 1 0 (bad_sides w h)
-      ∷ test 2 0 (bad_scale full)
-      ∷ test 3 0 (ltb full black)
-      ∷ test 3 0 (ltb 3 order)
-      ∷ test 4 0 (other_than (sites_of w h) (length mask))
-      ∷ test 4 0 (other_than (sites_of w h) (length frame))
+      test refusal.Sides (bad_sides w h)
+      ∷ test FullScale (bad_scale full)
+      ∷ test Parameter (ltb full black)
+      ∷ test Parameter (ltb 3 order)
+      ∷ test Length (other_than (sites_of w h) (length mask))
+      ∷ test Length (other_than (sites_of w h) (length frame))
       ∷ codes_test (sites_of w h) mask
       ∷ samples_test w h full (seen mask frame ∷ []) (seen mask frame)
-      ∷ test 9 0 (too_small w h)
-      ∷ test 7 0 (some_empty (centres_seen w h order mask frame))
-      ∷ test 10 0 (not_above (above_black black (centres_seen w h order mask frame).gr))
+      ∷ test TooSmall (too_small w h)
+      ∷ test TooFew (some_empty (centres_seen w h order mask frame))
+      ∷ test TooDark (not_above (above_black black (centres_seen w h order mask frame).gr))
       ∷ []
 
   pub table : Tabled (colour_verdict w h full black order mask frame) tests
@@ -85,7 +87,7 @@ module _ (w h full black order : ℕ) (mask frame : List ℕ) where
     pub scale : full ≤ 4095
     pub dark : black ≤ full
 
-  pub lent : lent_verdict w h full black order mask frame ≡ verdict.Clear → Lent
+  pub lent : lent_verdict w h full black order mask frame ≡ clear → Lent
   unfolding lent_verdict
   lent e =
       let passed = frame_clear w h full mask frame e in
@@ -108,7 +110,7 @@ module _ (w h full black order : ℕ) (mask frame : List ℕ) where
     pub gb : Lit full (centres_seen w h order mask frame).gb
     pub bright : black * (centres_seen w h order mask frame).gr.count < (centres_seen w h order mask frame).gr.total
 
-  pub accepted : colour_verdict w h full black order mask frame ≡ verdict.Clear → Accepted
+  pub accepted : colour_verdict w h full black order mask frame ≡ clear → Accepted
   unfolding colour_verdict too_small
   accepted e =
       let shown = centres_seen w h order mask frame in
@@ -132,39 +134,49 @@ module _ (w h full black order : ℕ) (mask frame : List ℕ) where
       }
 
   -- where 1 to 6 refuse nothing, what the code sees is what is in the centres, and they decide
-  module _ (clear : lent_verdict w h full black order mask frame ≡ verdict.Clear) (shown : Centres)
+  module _ (passed : lent_verdict w h full black order mask frame ≡ clear) (shown : Centres)
       (e : shown ≡ centres_of order (λ (plane : ℕ). box_sums w h plane (centre_of w h) mask frame)) where
     pub whole : shown ≡ centres_seen w h order mask frame
-    whole = let l = lent clear in e ∙ shown_whole w h order mask frame l.legal l.lent.of.masked l.lent.framed
+    whole = let l = lent passed in e ∙ shown_whole w h order mask frame l.legal l.lent.of.masked l.lent.framed
 
     pub rest : centres_verdict w h black shown ≡ colour_verdict w h full black order mask frame
-    unfolding colour_verdict ◌⨟◌
-    rest = rw clear (ap (λ (seen : Centres). centres_verdict w h black seen) whole)
+    unfolding colour_verdict
+    rest = rw passed (ap (λ (seen : Centres). centres_verdict w h black seen) whole)
 
-  pub lent_refused : (r : Refusal) → lent_verdict w h full black order mask frame ≡ verdict.Refused r
-      → colour_verdict w h full black order mask frame ≡ verdict.Refused r
-  unfolding colour_verdict ◌⨟◌
-  lent_refused r e = rw e
+  -- an answer's numbers are the paper's
+  pub told_paper : {told : Result Colours Refusal} → told ≡ colour_answer w h full black order mask frame → paper_of told ≡ colour_paper w h full black order mask frame
+  unfolding colour_answer colour_paper
+  told_paper e = rw e (counted_is_told no_figures _ (colour_verdict w h full black order mask frame))
 
-  pub refused_is : (r : Refusal) → colour_verdict w h full black order mask frame ≡ verdict.Refused r
-      → (Refused r ≡ colour_answer w h full black order mask frame) × (paper_of (Refused r) ≡ colour_paper w h full black order mask frame)
+  pub refused_is : (r : Refusal) → colour_verdict w h full black order mask frame ≡ Err r
+      → (Err r ≡ colour_answer w h full black order mask frame) × (paper_of (Err r) ≡ colour_paper w h full black order mask frame)
   unfolding colour_answer colour_paper
   refused_is r e = rw e (refl, refl)
 
-  pub accepted_is : colour_verdict w h full black order mask frame ≡ verdict.Clear
-      → (shown : Centres) → shown ≡ centres_seen w h order mask frame → (r b gb : Ratio)
-      → r ≡ ratio_of black shown.r shown.gr → b ≡ ratio_of black shown.b shown.gr → gb ≡ ratio_of black shown.gb shown.gr
-      → (OverGr r b gb ≡ colour_answer w h full black order mask frame) × (paper_of (OverGr r b gb) ≡ colour_paper w h full black order mask frame)
-  unfolding colour_answer colour_paper
-  accepted_is e shown s r b gb p q t = rw (e, p, q, t, s) (refl, refl)
+  -- the answer where 1 to 6 refuse, where the centres do, and where nothing does
+  pub lent_refused : (r : Refusal) → Err r ≡ lent_verdict w h full black order mask frame → Err r ≡ colour_answer w h full black order mask frame
+  unfolding colour_answer colour_verdict
+  lent_refused r e = rw (sym e) refl
+
+  module _ (passed : clear ≡ lent_verdict w h full black order mask frame) (shown : Centres)
+      (e : shown ≡ centres_of order (λ (plane : ℕ). box_sums w h plane (centre_of w h) mask frame)) where
+    pub centres_refused : (r : Refusal) → Err r ≡ centres_verdict w h black shown → Err r ≡ colour_answer w h full black order mask frame
+    unfolding colour_answer
+    centres_refused r f = rw (sym (f ∙ rest (sym passed) shown e)) refl
+
+    pub accepted_is : clear ≡ centres_verdict w h black shown → (r b gb : Ratio)
+        → r ≡ ratio_of black shown.r shown.gr → b ≡ ratio_of black shown.b shown.gr → gb ≡ ratio_of black shown.gb shown.gr
+        → Ok (figures r b gb) ≡ colour_answer w h full black order mask frame
+    unfolding colour_answer
+    accepted_is f r b gb p q t = rw (sym (f ∙ rest (sym passed) shown e), p, q, t, whole (sym passed) shown e) refl
 
   -- what ratios that are answered say
-  pub answer_is : (r b gb : Ratio) → colour_answer w h full black order mask frame ≡ OverGr r b gb
-      → (colour_verdict w h full black order mask frame ≡ verdict.Clear)
+  pub answer_is : (r b gb : Ratio) → colour_answer w h full black order mask frame ≡ Ok (figures r b gb)
+      → (colour_verdict w h full black order mask frame ≡ clear)
       × ((r ≡ ratio_of black (centres_seen w h order mask frame).r (centres_seen w h order mask frame).gr)
       × (b ≡ ratio_of black (centres_seen w h order mask frame).b (centres_seen w h order mask frame).gr)
       × (gb ≡ ratio_of black (centres_seen w h order mask frame).gb (centres_seen w h order mask frame).gr))
   unfolding colour_answer
   answer_is r b gb e =
-      let was = was_accepted (colour_verdict w h full black order mask frame) (λ r f. let z : ◌≡◌ {A = ℕ} 0 1 = cc in absurd (omega arith)) e in
-      (was.0, (cc, cc, cc))
+      let was = was_accepted (colour_verdict w h full black order mask frame) e in
+      (was.0, (sym (ap (λ (c : Colours). c.r) was.1), sym (ap (λ (c : Colours). c.b) was.1), sym (ap (λ (c : Colours). c.gb) was.1)))

@@ -8,8 +8,9 @@ use lib.Dec.{eqb}
 use lib.ListN.{length, get_or}
 use Rattle.laws.specs.First.{count_to}
 use Rattle.laws.proofs.Sole.{Sole, sole}
+use Rattle.std.specs.Prelude.{Ok}
 use Rattle.verdict.proofs.Verdicts.{Tabled, RefusesCounting, refuses_counting}
-use Rattle.verdict.proofs.Answers.{counted-told}
+use Rattle.verdict.proofs.Answers.{counted_is_told}
 use Rattle.window.specs.Shape.{sites_of}
 use Rattle.window.specs.View.{surveyed, seen, one, above}
 use Rattle.window.proofs.Views.{Agree, same_view}
@@ -18,9 +19,8 @@ use Rattle.refusals.proofs.Ranges.{one_counting}
 use Rattle.plane.specs.Plane.{row_parity, column_parity}
 use Rattle.colour.specs.Bayer.{mosaic, mosaic_of}
 use Rattle.colour.specs.Centre.{centre_of}
-use Rattle.colour.specs.Colour.{centres_seen, lent_verdict, colour_verdict, no_figures, colour_answer, paper_of, colour_paper}
-use Rattle.colour.specs.declared.Colour.TheVariants.{OverGr}
-use Rattle.colour.specs.declared.Mosaic.{Mosaic}
+use Rattle.colour.specs.Colour.{centres_seen, lent_verdict, colour_verdict, figures, no_figures, colour_figures, colour_answer, paper_of, colour_paper}
+use Rattle.colour.specs.Mosaic.{Mosaic}
 use Rattle.colour.specs.declared.Ratio.{Ratio}
 use Rattle.colour.proofs.Judged.{tests, table, Accepted, accepted, answer_is}
 use Rattle.colour.proofs.Outside.{Quiet, InCentre, seen_alike}
@@ -35,7 +35,7 @@ module _ (w h full black order : ℕ) (mask frame : List ℕ) where
   -- the paper's numbers are those of the answer
   pub paper_is : paper_of (colour_answer w h full black order mask frame) ≡ colour_paper w h full black order mask frame
   unfolding colour_answer colour_paper
-  paper_is = counted-told paper_of (colour_verdict w h full black order mask frame) refl (λ r. refl)
+  paper_is = counted_is_told no_figures (colour_figures black (centres_seen w h order mask frame)) (colour_verdict w h full black order mask frame)
 
   -- given: 1 to 6, 9, 7 and 10 exactly as document 01 tables them, in that order (`tests` has the table). 9 stands before 7:
   -- a window that is too small gets 9, even with no surveyed site
@@ -56,7 +56,7 @@ module _ (w h full black order : ℕ) (mask frame : List ℕ) where
   blind other a = rw (a.long, same_view a)
 
   -- of an accepted call with these ratios
-  module _ (r b gb : Ratio) (answer : colour_answer w h full black order mask frame ≡ OverGr r b gb) where
+  module _ (r b gb : Ratio) (answer : colour_answer w h full black order mask frame ≡ Ok (figures r b gb)) where
     told : Accepted w h full black order mask frame
     told = accepted w h full black order mask frame (answer_is w h full black order mask frame r b gb answer).0
 

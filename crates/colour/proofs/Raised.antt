@@ -7,8 +7,7 @@ use native.Mathlib.Omega.{arith}
 use lib.ListN.{length, get_or}
 use borrow.Author.Tests.{le-ltb}
 use Rattle.laws.proofs.Sums.{Shifted}
-use Rattle.verdict.specs.Verdict.{◌⨟◌}
-use Rattle.verdict.specs.declared.Verdict.{Verdict}
+use Rattle.verdict.specs.Verdict.{Verdict, ◌⨟◌}
 use Rattle.verdict.proofs.Verdicts.{then_same}
 use Rattle.verdict.proofs.Answers.{answer_same}
 use Rattle.window.specs.Shape.{sites_of}
@@ -22,7 +21,6 @@ use Rattle.plane.proofs.Planes.{site_in, box_shifted}
 use Rattle.colour.specs.Bayer.{mosaic_of}
 use Rattle.colour.specs.Centre.{centre_of, centre_sums, some_empty}
 use Rattle.colour.specs.Colour.{ratio_of, centres_seen, lent_verdict, centres_verdict, colour_verdict, colour_answer}
-use Rattle.colour.specs.declared.Colour.TheVariants.{Refused}
 use Rattle.colour.proofs.Judged.{lent, accepted}
 use Rattle.colour.proofs.Figures.{same_total, same-ratio}
 
@@ -70,6 +68,6 @@ module _ (w h full black order d : ℕ) (mask frame brighter : List ℕ) (long :
   unfolding colour_answer
   lifted_alike =
       rw same_verdict
-      (answer_same (colour_verdict w h full black order mask frame) Refused
+      (answer_same (colour_verdict w h full black order mask frame)
       (λ e. let legal = (accepted w h full black order mask frame e).of.legal in
       rw (ratios legal (mosaic_of order).r, ratios legal (mosaic_of order).b, ratios legal (mosaic_of order).gb)))

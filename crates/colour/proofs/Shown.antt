@@ -17,7 +17,7 @@ use Rattle.plane.proofs.Planes.{box_few, box_at_most, sums_accepted}
 use Rattle.colour.specs.Bayer.{mosaic_of, centres_of}
 use Rattle.colour.specs.Centre.{centre_of, centre_sums}
 use Rattle.colour.specs.Colour.{centres_seen}
-use Rattle.colour.specs.declared.Mosaic.{Mosaic}
+use Rattle.colour.specs.Mosaic.{Mosaic}
 
 -- where the centre begins tells where it ends
 pub centre_is : (w h top left : ℕ) → top ≡ (h / 2 - 24) / 2 → left ≡ (w / 2 - 32) / 2

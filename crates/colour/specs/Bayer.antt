@@ -1,8 +1,8 @@
 -- Document 01, "Colour ratios": which plane of a window has which colour.
 use Rattle.std.specs.Prelude.{ℕ, cond, eqb}
 use Rattle.plane.specs.declared.Sums.{Sums}
-use Rattle.colour.specs.declared.Mosaic.{Mosaic}
-use Rattle.colour.specs.declared.Centres.{Centres}
+use Rattle.colour.specs.Mosaic.{Mosaic}
+use Rattle.colour.specs.Mosaic.{Centres}
 
 -- the planes of R, Gr, B and Gb
 abbrev pub mosaic : ℕ → ℕ → ℕ → ℕ → Mosaic

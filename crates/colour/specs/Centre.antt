@@ -3,7 +3,7 @@ use Rattle.std.specs.Prelude.{ℕ, ◌+◌, ◌-◌, ◌/◌, Bool, ◌||◌, eq
 use Rattle.plane.specs.Plane.{box_sum, sums}
 use Rattle.plane.specs.declared.PlaneBox.{PlaneBox}
 use Rattle.plane.specs.declared.Sums.{Sums}
-use Rattle.colour.specs.declared.Centres.{Centres}
+use Rattle.colour.specs.Mosaic.{Centres}
 
 -- of a plane w / 2 wide and h / 2 high: 32 wide and 24 high, left and top being half the rest rounded down
 abbrev pub centre_of : ℕ → ℕ → PlaneBox

@@ -1,20 +1,19 @@
 -- Document 01, "Colour ratios": what `colour_ratios` answers.
-use Rattle.std.specs.Prelude.{ℕ, ◌*◌, Bool, not, List, ltb, ℤ, pos, nat_abs, ◌*ℤ◌}
+use Rattle.std.specs.Prelude.{ℕ, ◌*◌, Bool, not, List, ltb, ℤ, pos, nat_abs, ◌*ℤ◌, Result}
 use Rattle.std.specs.Int.Signed.{lt_z}
 use Rattle.laws.specs.Signed.{◌⊖◌}
-use Rattle.verdict.specs.Verdict.{◌⨟◌, refuse_if}
-use Rattle.verdict.specs.Answer.{answer_of, CountedPaper, accepted_counted, refused_counted, counted_for}
-use Rattle.verdict.specs.declared.Verdict.{Verdict}
-use Rattle.verdict.specs.declared.Verdict.TheVariants as verdict
+use Rattle.verdict.specs.Verdict.{Verdict, clear, ◌⨟◌, refuse_if}
+use Rattle.verdict.specs.Answer.{answer_of, CountedPaper, answer_counted, counted_for}
+use Rattle.verdict.specs.declared.Refusal.{Refusal}
+use Rattle.verdict.specs.declared.Refusal.TheVariants.{Parameter, TooFew, TooSmall, TooDark}
 use Rattle.window.specs.View.{seen, one}
 use Rattle.refusals.specs.Judge.{frame_verdict}
 use Rattle.plane.specs.declared.Sums.{Sums}
 use Rattle.colour.specs.Bayer.{centres_of}
 use Rattle.colour.specs.Centre.{too_small, centre_sums, some_empty}
-use Rattle.colour.specs.declared.Centres.{Centres}
+use Rattle.colour.specs.Mosaic.{Centres}
 use Rattle.colour.specs.declared.Ratio.{Ratio}
-use Rattle.colour.specs.declared.Colour.{Colour}
-use Rattle.colour.specs.declared.Colour.TheVariants.{OverGr, Refused}
+use Rattle.colour.specs.declared.Colours.{Colours}
 
 -- T: the sum of sample − black level over the surveyed sites
 unfoldable pub above_black : ℕ → Sums → ℤ
@@ -39,52 +38,45 @@ centres_seen w h order mask frame = centres_of order (centre_sums w h (seen mask
 -- the refusals in their order: 1 to 6, 3 of the black level and of the Bayer order
 unfoldable pub lent_verdict : ℕ → ℕ → ℕ → ℕ → ℕ → List ℕ → List ℕ → Verdict
 lent_verdict w h full black order mask frame =
-    frame_verdict w h full (refuse_if 3 0 (ltb full black) ⨟ refuse_if 3 0 (ltb 3 order)) mask frame verdict.Clear
+    frame_verdict w h full (refuse_if Parameter (ltb full black) ⨟ refuse_if Parameter (ltb 3 order)) mask frame clear
 
 -- then those of the centres, 9 before 7
 abbrev pub centres_verdict : ℕ → ℕ → ℕ → Centres → Verdict
 centres_verdict w h black shown =
-    refuse_if 9 0 (too_small w h)
-    ⨟ refuse_if 7 0 (some_empty shown)
-    ⨟ refuse_if 10 0 (not_above (above_black black shown.gr))
+    refuse_if TooSmall (too_small w h)
+    ⨟ refuse_if TooFew (some_empty shown)
+    ⨟ refuse_if TooDark (not_above (above_black black shown.gr))
 
 unfoldable pub colour_verdict : ℕ → ℕ → ℕ → ℕ → ℕ → List ℕ → List ℕ → Verdict
 colour_verdict w h full black order mask frame =
     lent_verdict w h full black order mask frame ⨟ centres_verdict w h black (centres_seen w h order mask frame)
 
 -- R, B and Gb over Gr, unreduced
-pub record Figures : Type 0 where
-  pub r : Ratio
-  pub b : Ratio
-  pub gb : Ratio
-
-abbrev pub figures : Ratio → Ratio → Ratio → Figures
+abbrev pub figures : Ratio → Ratio → Ratio → Colours
 figures r b gb = record { r = r; b = b; gb = gb }
 
 -- every number 0: what stands beside a refusal
 abbrev pub no_ratio : Ratio
 no_ratio = ratio (pos 0) 0
 
-abbrev pub no_figures : Figures
+abbrev pub no_figures : Colours
 no_figures = figures no_ratio no_ratio no_ratio
 
 -- of what is seen in the four centres
-abbrev pub colour_figures : ℕ → Centres → Figures
+abbrev pub colour_figures : ℕ → Centres → Colours
 colour_figures black shown =
     figures (ratio_of black shown.r shown.gr) (ratio_of black shown.b shown.gr) (ratio_of black shown.gb shown.gr)
 
 -- the answer: the figures, or the refusal
-unfoldable pub colour_answer : ℕ → ℕ → ℕ → ℕ → ℕ → List ℕ → List ℕ → Colour
+unfoldable pub colour_answer : ℕ → ℕ → ℕ → ℕ → ℕ → List ℕ → List ℕ → Result Colours Refusal
 colour_answer w h full black order mask frame =
-    let f = colour_figures black (centres_seen w h order mask frame) in
-    answer_of (colour_verdict w h full black order mask frame) (OverGr f.r f.b f.gb) Refused
+    answer_of (colour_verdict w h full black order mask frame) (colour_figures black (centres_seen w h order mask frame))
 
 -- the paper's numbers of an answer
-abbrev pub paper_of : Colour → CountedPaper Figures
-paper_of (OverGr r b gb) = accepted_counted (figures r b gb)
-paper_of (Refused r) = refused_counted r no_figures
+abbrev pub paper_of : Result Colours Refusal → CountedPaper Colours
+paper_of = answer_counted no_figures
 
 -- the paper's numbers for all inputs
-unfoldable pub colour_paper : ℕ → ℕ → ℕ → ℕ → ℕ → List ℕ → List ℕ → CountedPaper Figures
+unfoldable pub colour_paper : ℕ → ℕ → ℕ → ℕ → ℕ → List ℕ → List ℕ → CountedPaper Colours
 colour_paper w h full black order mask frame =
     counted_for (colour_verdict w h full black order mask frame) (colour_figures black (centres_seen w h order mask frame)) no_figures

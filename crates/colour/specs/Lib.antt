@@ -1,3 +1,4 @@
+pub mod Mosaic
 pub mod Bayer
 pub mod Centre
 pub mod Colour

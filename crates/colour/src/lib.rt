@@ -8,7 +8,7 @@ ghost use Rattle.colour.specs.Centre.{centre_of, too_small, some_empty};
 ghost use Rattle.colour.specs.Colour.{above_black, not_above, ratio_of, lent_verdict, centres_verdict, colour_answer, paper_of, colour_paper};
 
 use plane::{PlaneBox, Sums};
-use verdict::{Refusal, Verdict};
+use verdict::Refusal;
 
 // A colour over a green, unreduced.
 #[derive(Clone, Copy)]
@@ -17,63 +17,59 @@ pub struct Ratio {
     pub denominator: u64,
 }
 
-// R, B and Gb over Gr, or a refusal.
+// R, B and Gb over Gr.
 #[derive(Clone, Copy)]
-pub enum Colour {
-    OverGr(Ratio, Ratio, Ratio),
-    Refused(Refusal),
+pub struct Colours {
+    pub r: Ratio,
+    pub b: Ratio,
+    pub gb: Ratio,
+}
+
+// One thing for each colour of the mosaic.
+#[derive(Clone, Copy)]
+pub struct ByColour<T> {
+    pub r: T,
+    pub gr: T,
+    pub b: T,
+    pub gb: T,
 }
 
 // The plane that has each colour.
-#[derive(Clone, Copy)]
-pub struct Mosaic {
-    pub r: usize,
-    pub gr: usize,
-    pub b: usize,
-    pub gb: usize,
-}
+pub type Mosaic = ByColour<usize>;
 
 // What is seen in the centre of each colour's plane.
-#[derive(Clone, Copy)]
-struct Centres {
-    r: Sums,
-    gr: Sums,
-    b: Sums,
-    gb: Sums,
-}
+type Centres = ByColour<Sums>;
 
+// The order is a number: C hands it in, and `mosaic_of` is promised of every number.
+#[tactic(auto, unfolding(crate::specs::Bayer::mosaic_of))]
 pub fn mosaic_of(bayer_order: u64) -> Mosaic
     ensures { result ≡ mosaic_of bayer_order }
 {
-    if bayer_order == 0 {
-        return Mosaic {
+    match bayer_order {
+        0 => Mosaic {
             r: 0,
             gr: 1,
             b: 3,
             gb: 2,
-        };
-    }
-    if bayer_order == 1 {
-        return Mosaic {
+        },
+        1 => Mosaic {
             r: 1,
             gr: 0,
             b: 2,
             gb: 3,
-        };
-    }
-    if bayer_order == 2 {
-        return Mosaic {
+        },
+        2 => Mosaic {
             r: 3,
             gr: 2,
             b: 0,
             gb: 1,
-        };
-    }
-    Mosaic {
-        r: 2,
-        gr: 3,
-        b: 1,
-        gb: 0,
+        },
+        _ => Mosaic {
+            r: 2,
+            gr: 3,
+            b: 1,
+            gb: 0,
+        },
     }
 }
 
@@ -81,10 +77,7 @@ pub fn mosaic_of(bayer_order: u64) -> Mosaic
 fn begin(side: usize, long: usize) -> usize
     ensures { result ≡ (side - long) / 2 }
 {
-    if side < long {
-        return 0;
-    }
-    (side - long) / 2
+    side.saturating_sub(long) / 2
 }
 
 pub fn centre(width: usize, height: usize) -> PlaneBox
@@ -118,64 +111,63 @@ fn centres_seen(
     Centres { r, gr, b, gb }
 }
 
+#[tactic(auto, unfolding(crate::specs::Centre::too_small))]
 pub fn too_small(width: usize, height: usize) -> bool
     ensures { result ≡ too_small width height }
 {
     width / 2 < 32 || height / 2 < 24
 }
 
+#[tactic(auto, unfolding(crate::specs::Centre::some_empty))]
 fn some_empty(seen: Centres) -> bool
     ensures { result ≡ some_empty seen }
 {
-    if seen.r.count == 0 {
-        return true;
-    }
-    if seen.gr.count == 0 {
-        return true;
-    }
-    if seen.b.count == 0 {
-        return true;
-    }
-    seen.gb.count == 0
+    seen.r.count == 0 || seen.gr.count == 0 || seen.b.count == 0 || seen.gb.count == 0
 }
 
 // T: the sum of sample minus black level.
 pub fn above_black(black_level: u16, seen: Sums) -> i64
     ensures { result ≡ above_black black_level seen }
 {
-    seen.total as i64 - (black_level as u32 * seen.count as u32) as i64
+    i64::from(seen.total) - i64::from(u32::from(black_level) * u32::from(seen.count))
 }
 
 // Whether T is not above 0.
+#[tactic(auto, using(crate::proofs::Totals::compared))]
 pub fn not_above(black_level: u16, seen: Sums) -> bool
     ensures { result ≡ not_above (above_black black_level seen) }
 {
-    seen.total <= black_level as u32 * seen.count as u32
+    seen.total <= u32::from(black_level) * u32::from(seen.count)
 }
 
 // A colour over a green.
 pub fn over(black_level: u16, colour: Sums, green: Sums) -> Ratio
     ensures { result ≡ ratio_of black_level colour green }
 {
-    let numerator = above_black(black_level, colour) * green.count as i64;
-    let denominator = above_black(black_level, green) * colour.count as i64;
+    let numerator = above_black(black_level, colour) * i64::from(green.count);
+    let denominator = above_black(black_level, green) * i64::from(colour.count);
     Ratio {
         numerator,
-        denominator: exact::size(denominator),
+        denominator: denominator.unsigned_abs(),
     }
 }
 
 // Refusals 9, 7 and 10, in that order.
-fn judge_centres(width: usize, height: usize, black_level: u16, seen: Centres) -> Verdict
+fn judge_centres(
+    width: usize,
+    height: usize,
+    black_level: u16,
+    seen: Centres,
+) -> Result<(), Refusal>
     ensures { result ≡ centres_verdict width height black_level seen }
 {
-    let small = verdict::refuse_if(9, 0, too_small(width, height));
-    let empty = verdict::refuse_if(7, 0, some_empty(seen));
-    let dark = verdict::refuse_if(10, 0, not_above(black_level, seen.gr));
-    verdict::then(small, verdict::then(empty, dark))
+    verdict::refuse_if(Refusal::TooSmall, too_small(width, height))?;
+    verdict::refuse_if(Refusal::TooFew, some_empty(seen))?;
+    verdict::refuse_if(Refusal::TooDark, not_above(black_level, seen.gr))
 }
 
 // Refusals 1 to 6, in their order.
+#[tactic(auto, unfolding(crate::specs::Colour::lent_verdict))]
 fn judge(
     width: usize,
     height: usize,
@@ -184,23 +176,23 @@ fn judge(
     bayer_order: u64,
     mask: &[u8],
     frame: &[u16],
-) -> Verdict
+) -> Result<(), Refusal>
     ensures { result ≡ lent_verdict width height full_scale black_level bayer_order mask.now frame.now }
 {
-    let black = verdict::refuse_if(3, 0, full_scale < black_level);
-    let order = verdict::refuse_if(3, 0, 3 < bayer_order);
-    let parameters = verdict::then(black, order);
+    let black = verdict::refuse_if(Refusal::Parameter, full_scale < black_level);
+    let order = verdict::refuse_if(Refusal::Parameter, 3 < bayer_order);
     refusals::judge_frame(
         width,
         height,
         full_scale,
-        parameters,
+        black.and(order),
         mask,
         frame,
-        Verdict::Clear,
+        Ok(()),
     )
 }
 
+#[tactic(auto, using(crate::proofs::Judged::lent, crate::proofs::Judged::told_paper, crate::proofs::Judged::lent_refused))]
 pub fn colour_ratios(
     width: usize,
     height: usize,
@@ -209,11 +201,11 @@ pub fn colour_ratios(
     bayer_order: u64,
     mask: &[u8],
     frame: &[u16],
-) -> Colour
+) -> Result<Colours, Refusal>
     ensures answer { result ≡ colour_answer width height full_scale black_level bayer_order mask.now frame.now }
     ensures paper { paper_of result ≡ colour_paper width height full_scale black_level bayer_order mask.now frame.now }
 {
-    let lent = judge(
+    judge(
         width,
         height,
         full_scale,
@@ -221,18 +213,14 @@ pub fn colour_ratios(
         bayer_order,
         mask,
         frame,
-    );
-    if let Verdict::Refused(refusal) = lent {
-        return Colour::Refused(refusal);
-    }
+    )?;
     let seen = centres_seen(width, height, bayer_order, mask, frame);
+    // At most full scale, so it fits: `try_from` would ask of a refusal that cannot be.
     let black = black_level as u16;
-    match judge_centres(width, height, black, seen) {
-        Verdict::Refused(refusal) => Colour::Refused(refusal),
-        Verdict::Clear => Colour::OverGr(
-            over(black, seen.r, seen.gr),
-            over(black, seen.b, seen.gr),
-            over(black, seen.gb, seen.gr),
-        ),
-    }
+    judge_centres(width, height, black, seen)?;
+    Ok(Colours {
+        r: over(black, seen.r, seen.gr),
+        b: over(black, seen.b, seen.gr),
+        gb: over(black, seen.gb, seen.gr),
+    })
 }

@@ -6,20 +6,20 @@ use native.Mathlib.Omega.{arith}
 use lib.Dec.{ltb}
 use lib.IntN.{ℤ, pos}
 use lib.Signed.{lt_z}
+use Rattle.std.specs.Prelude.{Ok}
 use Rattle.laws.specs.First.{count_to}
 use Rattle.laws.specs.Sum.{sum_to}
 use Rattle.laws.specs.Signed.{◌⊖◌}
 use Rattle.laws.proofs.Signeds.{⊖-below, ⊖-self, ⊖-cross}
 use Rattle.laws.proofs.Sole.{Sole, sole}
 use Rattle.verdict.proofs.Verdicts.{Tabled, RefusesCounting, refuses_counting}
-use Rattle.verdict.proofs.Answers.{counted-told}
+use Rattle.verdict.proofs.Answers.{counted_is_told}
 use Rattle.window.specs.Shape.{sites_of}
 use Rattle.window.specs.View.{seen, one, above}
 use Rattle.window.proofs.Views.{Agree, same_view}
 use Rattle.refusals.specs.Judge.{frame_verdict}
 use Rattle.refusals.proofs.Ranges.{one_counting}
-use Rattle.dark.specs.Dark.{above_black, dark_verdict, no_figures, dark_answer, paper_of, dark_paper}
-use Rattle.dark.specs.declared.Dark.TheVariants.{Level}
+use Rattle.dark.specs.Dark.{above_black, dark_verdict, figures, no_figures, dark_figures, dark_answer, paper_of, dark_paper}
 use Rattle.dark.proofs.Levels.{tests, table, accepted, answer_is}
 
 module _ (w h full black : ℕ) (mask frame : List ℕ) where
@@ -30,7 +30,7 @@ module _ (w h full black : ℕ) (mask frame : List ℕ) where
   -- the paper's numbers are those of the answer
   pub paper_is : paper_of (dark_answer w h full black mask frame) ≡ dark_paper w h full black mask frame
   unfolding dark_answer dark_paper
-  paper_is = counted-told paper_of (dark_verdict w h full black mask frame) refl (λ r. refl)
+  paper_is = counted_is_told no_figures (dark_figures w h black mask frame) (dark_verdict w h full black mask frame)
 
   -- given: 1 to 7 exactly as document 01 tables them, in that order (`tests` has the table)
   pub given : Tabled (dark_verdict w h full black mask frame) (tests w h full black mask frame)
@@ -49,7 +49,7 @@ module _ (w h full black : ℕ) (mask frame : List ℕ) where
   blind other a = rw (a.long, same_view a)
 
   -- of an accepted call with the level a / n
-  module _ (a : ℤ) (n : ℕ) (answer : dark_answer w h full black mask frame ≡ Level a n) where
+  module _ (a : ℤ) (n : ℕ) (answer : dark_answer w h full black mask frame ≡ Ok (figures a n)) where
     -- n counts the surveyed sites, of which there are some
     pub counts : (n ≡ sum_to (sites_of w h) (one mask)) × (0 < n)
     counts =

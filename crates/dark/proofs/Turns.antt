@@ -13,8 +13,8 @@ use Rattle.laws.specs.Sum.{sum_to}
 use Rattle.laws.specs.Signed.{◌⊖◌}
 use Rattle.laws.proofs.Cases.{times_le}
 use Rattle.laws.proofs.Sums.{sum_none, sum_more, sum-le}
-use Rattle.laws.proofs.Signeds.{⊖-self}
-use Rattle.laws.proofs.Machine.{Is, nat_is, laid_is, less_is, add_is, add_fits}
+use Rattle.laws.proofs.Signeds.{⊖-self, ⊖-zero}
+use Rattle.laws.proofs.Machine.{Is, nat_is, laid_is, is_as, sub_is, add_is, add_fits}
 use Rattle.window.specs.View.{surveyed, seen_at, seen, one}
 use Rattle.window.proofs.Views.{seen_is, one_is, seen_le, surveyed-few}
 
@@ -31,9 +31,11 @@ module _ (black : ℕ) (mask frame : List ℕ) where
   pub start : Is 0 (sum_to 0 (seen mask frame)) (black * sum_to 0 (one mask))
   start = rw (← sum_none (seen mask frame), ← sum_none (one mask), mul-zero black) (nat_is 0 (omega arith))
 
-  module _ (i sum : ℕ) (z : ℤ) (small : black ≤ 4095) (inside : i < 16384) (fits : (j : ℕ) → Fits w16 (get_or frame j 0))
+  -- a turn's code and sample stand at its index
+  module _ (i sum code : ℕ) (s z : ℤ) (small : black ≤ 4095) (inside : i < 16384) (fits : (j : ℕ) → Fits w16 (get_or frame j 0))
       (so_far : to_z w64 sum ≡ sum_to i (seen mask frame) ⊖ black * sum_to i (one mask))
-      (here : z ≡ cond (surveyed (get_or mask i 0)) (to_z w64 (of_z w64 (to_z w64 (get_or frame i 0) -ℤ to_z w64 black))) (pos 0)) where
+      (masked : code ≡ get_or mask i 0) (framed : s ≡ pos (get_or frame i 0))
+      (here : z ≡ cond (surveyed code) (to_z w64 (of_z w64 (to_z w64 (of_z w64 s) -ℤ to_z w64 black))) (pos 0)) where
     low : (j : ℕ) → seen mask frame j ≤ 65535
     low j = rw seen_is (seen_le (get_or mask j 0) (get_or frame j 0) 65535 (omega (arith, fits j)))
 
@@ -49,11 +51,16 @@ module _ (black : ℕ) (mask frame : List ℕ) where
     one_down : black * one mask i ≤ 4095 * 1
     one_down = rw one_is (times_le black (seen_at (get_or mask i 0) 1) 4095 1 small (seen_le (get_or mask i 0) 1 1 (omega arith)))
 
+    less : Is (of_z w64 (to_z w64 (of_z w64 s) -ℤ to_z w64 black)) (get_or frame i 0) black
+    less =
+        let x = get_or frame i 0 in
+        let laid = laid_is s x 0 (framed ∙ sym (⊖-zero x)) (omega (arith, fits i)) (omega arith) in
+        is_as x black (sub_is laid (nat_is black (omega arith)) (omega (arith, fits i)) (omega arith)) (omega arith) (omega (arith, fits i)) (omega arith)
+
     added : Is (of_z w64 z) (seen mask frame i) (black * one mask i)
     added =
-        let d = less_is (get_or frame i 0) black (omega (arith, fits i)) (omega arith) in
         let v : z ≡ seen mask frame i ⊖ black * one mask i =
-        rw (seen_is, one_is) (chosen (get_or mask i 0) (get_or frame i 0) black z (rw d.val at here)) in
+        rw (seen_is, one_is) (chosen (get_or mask i 0) (get_or frame i 0) black z (rw (masked, less.val) at here)) in
         laid_is z (seen mask frame i) (black * one mask i) v (omega (arith, low i)) (omega (arith, one_down))
 
     pub turn_fits : SFits w64 (to_z w64 sum +ℤ to_z w64 (of_z w64 z))

@@ -6,9 +6,8 @@ use Prim.Native.Nat.{ℕ, ◌+◌}
 use mathlib.Core.List.{List}
 use mathlib.Core.Path.{◌≡◌, refl}
 use lib.ListN.{length}
-use Rattle.verdict.specs.Verdict.{number_of, place_of, over_of}
+use Rattle.verdict.specs.Verdict.{Verdict, number_of, place_of, over_of}
 use Rattle.verdict.specs.Answer.{Paper, CountedPaper}
-use Rattle.verdict.specs.declared.Verdict.{Verdict}
 use Rattle.verdict.proofs.Verdicts.{Test, Tabled, Refuses, RefusesCounting, never_over}
 use Rattle.window.specs.View.{seen}
 use Rattle.refusals.proofs.Ranges.{over_full}

@@ -9,7 +9,6 @@ use mathlib.Core.List.{List}
 use mathlib.Core.Logic.{◌⊎◌}
 use mathlib.Core.Path.{◌≡◌, refl}
 use lib.ListN.{length, get_or}
-use Rattle.verdict.specs.declared.Verdict.TheVariants as verdict
 use Rattle.window.specs.Shape.{sites_of}
 use Rattle.window.specs.View.{surveyed, seen}
 use Rattle.window.proofs.Views.{Agree, same_view}
@@ -45,6 +44,7 @@ use Rattle.blocks.specs.Table.{table_answer, table_totals, table_counts}
 use Rattle.blocks.specs.Recode.{recode_verdict, recode_mask}
 use Rattle.blocks.proofs.Judged.{recode_done}
 use Rattle.blocks.proofs.Promises as blocks
+use Rattle.verdict.specs.Verdict.{clear}
 
 -- ---- only surveyed sites count
 pub record Blind : Type 0 where
@@ -79,7 +79,7 @@ pub record Blind : Type 0 where
       → (repair_answer w h full mask frame (length out_frame) (length out_mask) ≡ repair_answer w h full mask other (length out_frame) (length out_mask))
       × (repair_mask w h full mask frame (length out_frame) out_mask ≡ repair_mask w h full mask other (length out_frame) out_mask)
   pub repaired_samples : (w h full : ℕ) (mask frame other out_frame out_mask : List ℕ) → Agree mask frame other
-      → repair_verdict w h full mask frame (length out_frame) (length out_mask) ≡ verdict.Clear → (i : ℕ) → i < sites_of w h
+      → repair_verdict w h full mask frame (length out_frame) (length out_mask) ≡ clear → (i : ℕ) → i < sites_of w h
       → (get_or mask i 0 ≡ 0) ⊎ ((get_or mask i 0 ≡ 2) × (get_or (repair_mask w h full mask frame (length out_frame) out_mask) i 0 ≡ 3))
       → get_or (repair_frame w h full mask frame out_frame (length out_mask)) i 0 ≡ get_or (repair_frame w h full mask other out_frame (length out_mask)) i 0
   -- of rows and of columns
@@ -106,17 +106,17 @@ pub record Blind : Type 0 where
 
 -- ---- a gap stays a gap, in the two masks that are written anew; and in the one that is recoded, but at the site that the caller names
 pub record Gaps : Type 0 where
-  pub find_defects : (w h full t : ℕ) (mask frame out : List ℕ) → find_verdict w h full t mask frame (length out) ≡ verdict.Clear
+  pub find_defects : (w h full t : ℕ) (mask frame out : List ℕ) → find_verdict w h full t mask frame (length out) ≡ clear
       → (i : ℕ) → i < sites_of w h → get_or mask i 0 ≡ 1 → get_or (find_mask w h full t mask frame out) i 0 ≡ 1
   -- and keeps its sample
   pub repair : (w h full : ℕ) (mask frame out_frame out_mask : List ℕ)
-      → repair_verdict w h full mask frame (length out_frame) (length out_mask) ≡ verdict.Clear
+      → repair_verdict w h full mask frame (length out_frame) (length out_mask) ≡ clear
       → (i : ℕ) → i < sites_of w h → get_or mask i 0 ≡ 1
       → (get_or (repair_mask w h full mask frame (length out_frame) out_mask) i 0 ≡ 1)
       × (get_or (repair_frame w h full mask frame out_frame (length out_mask)) i 0 ≡ get_or frame i 0)
   -- the caller may recode a gap (document 02, j): the named site gets the code that was handed in, and every other site, gap or not, keeps its own
   pub shading_recode : (w h full site code : ℕ) (mask frame totals counts : List ℕ)
-      → recode_verdict w h full site code mask frame (length totals) (length counts) ≡ verdict.Clear
+      → recode_verdict w h full site code mask frame (length totals) (length counts) ≡ clear
       → blocks.OneCode site code mask (recode_mask w h full site code mask frame (length totals) (length counts))
 
 pub record Demand2 : Type 0 where

@@ -7,7 +7,7 @@ use Rattle.laws.specs.Signed.{◌⊖◌, sum_toℤ}
 use Rattle.laws.specs.Sum.{sum_to, sum_in, sum_box}
 use Rattle.laws.specs.Table.{tabulate}
 use Rattle.exact.specs.Root.{root, root_to}
-use Rattle.verdict.specs.Verdict.{◌⨟◌, refuse_with, refuse_first}
+use Rattle.verdict.specs.Verdict.{◌⨟◌, refuse_if, refuse_first}
 use Rattle.window.specs.Shape.{bad_count, bad_side, bad_sides, bad_scale, sites_of}
 use Rattle.window.specs.View.{seen_at, seen, one}
 use Rattle.refusals.specs.Judge.{shape_of, samples_in, over_in, mask_verdict, frame_verdict, frames_verdict}
@@ -41,7 +41,7 @@ use Rattle.shading.specs.Judge.{bad_limit, impossible, impossible_in, lent_verdi
 use Rattle.edges.specs.Table.{Edges, Beside, Transfers, Shadings, Stacks}
 
 pub edges : Edges
-unfolding round of_bits first_to greatest_to greatest_in ◌⊖◌ sum_toℤ sum_to sum_in sum_box tabulate shape_of mask_verdict frame_verdict box_sum bad_side bad_sides bad_scale sites_of ◌⨟◌ refuse_with refuse_first samples_in over_in seen_at seen one root root_to joined sample_at unpack_verdict unpack_answer unpack_buffer numerator spread_of frames_verdict pair_verdict pair_answer above_black dark_verdict dark_answer near_sum used_threshold far found_at marked_at found_count find_verdict find_answer find_mask line_total step_of ten_around stands_out deviation figures_of bad_count pattern_verdict pattern_answer before after pooled defective mark_of mark_at lines_verdict lines_answer lines_buffer
+unfolding round of_bits first_to greatest_to greatest_in ◌⊖◌ sum_toℤ sum_to sum_in sum_box tabulate shape_of mask_verdict frame_verdict box_sum bad_side bad_sides bad_scale sites_of samples_in over_in seen_at seen one root root_to joined sample_at unpack_verdict unpack_answer unpack_buffer numerator spread_of frames_verdict pair_verdict pair_answer above_black dark_verdict dark_answer near_sum used_threshold far found_at marked_at found_count find_verdict find_answer find_mask line_total step_of ten_around stands_out deviation figures_of bad_count pattern_verdict pattern_answer before after pooled defective mark_of mark_at lines_verdict lines_answer lines_buffer
 edges = record {
   K1 = refl;
   K2 = refl;
@@ -56,7 +56,7 @@ edges = record {
 }
 
 pub beside : Beside
-unfolding round first_to greatest_to greatest_in ◌⊖◌ sum_toℤ sum_to sum_in sum_box tabulate shape_of mask_verdict frame_verdict box_sum bad_side bad_sides bad_scale sites_of ◌⨟◌ refuse_with refuse_first samples_in over_in seen_at seen one root root_to numerator spread_of frames_verdict pair_verdict pair_answer above_black dark_verdict dark_answer near_sum used_threshold far found_at marked_at found_count find_verdict find_answer find_mask line_total step_of ten_around stands_out deviation figures_of bad_count pattern_verdict pattern_answer before after pooled defective mark_of mark_at lines_verdict lines_buffer
+unfolding round first_to greatest_to greatest_in ◌⊖◌ sum_toℤ sum_to sum_in sum_box tabulate shape_of mask_verdict frame_verdict box_sum bad_side bad_sides bad_scale sites_of samples_in over_in seen_at seen one root root_to numerator spread_of frames_verdict pair_verdict pair_answer above_black dark_verdict dark_answer near_sum used_threshold far found_at marked_at found_count find_verdict find_answer find_mask line_total step_of ten_around stands_out deviation figures_of bad_count pattern_verdict pattern_answer before after pooled defective mark_of mark_at lines_verdict lines_buffer
 beside = record {
   dark_column = refl;
   dark_row = refl;
@@ -74,7 +74,7 @@ beside = record {
 }
 
 pub transfers : Transfers
-unfolding size odd units round of_bits first_to greatest_to greatest_in first_greatest ◌⊖◌ sum_to ◌⨟◌ refuse_with joint_spread all_equal out_of_limits bad_length bad_list bad_ends too_large transfer_verdict transfer_answer
+unfolding size odd units round of_bits first_to greatest_to greatest_in first_greatest ◌⊖◌ sum_to joint_spread all_equal out_of_limits bad_length bad_list bad_ends too_large transfer_verdict transfer_answer
 transfers = record {
   straight = refl;
   outside_the_chosen = refl;

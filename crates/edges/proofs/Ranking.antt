@@ -6,11 +6,11 @@
 use Prim.Native.Nat.{ℕ, ◌*◌, ◌≤◌}
 use mathlib.Core.List.{List}
 use mathlib.Core.Path.{◌≡◌}
+use Rattle.std.specs.Prelude.{Ok}
 use Rattle.exact.specs.Bound.{OnePattern, AtMost, ByValue}
 use Rattle.window.proofs.Views.{Drifted}
 use Rattle.pair.specs.Pair.{pair_answer}
 use Rattle.pair.specs.declared.PairFigures.{PairFigures}
-use Rattle.pair.specs.declared.Pair.TheVariants.{Measured}
 use Rattle.pair.proofs.RankPromises.{Answered}
 use Rattle.pair.proofs.RankPromises as pair
 
@@ -33,13 +33,13 @@ pub record Ranking : Type 0 where
   pub one_pattern : (a : PairFigures) → Answered a → OnePattern a.variance × OnePattern a.noise
   -- the two frames swapped are accepted exactly where they were, and then the answer is the same, all six numbers
   pub swap : (w h full : ℕ) (mask first second : List ℕ) (figures : PairFigures)
-      → (pair_answer w h full mask first second ≡ Measured figures → pair_answer w h full mask second first ≡ Measured figures)
-      × (pair_answer w h full mask second first ≡ Measured figures → pair_answer w h full mask first second ≡ Measured figures)
+      → (pair_answer w h full mask first second ≡ Ok figures → pair_answer w h full mask second first ≡ Ok figures)
+      × (pair_answer w h full mask second first ≡ Ok figures → pair_answer w h full mask first second ≡ Ok figures)
   -- with one constant, up less down, added to every surveyed sample of the first frame, or of the second, and none leaving 0 to full scale,
   -- a pair that was accepted is accepted, and the answer is the same, all six numbers
   pub shift : (w h full up down : ℕ) (mask frame other : List ℕ) → Drifted up down full mask frame other → (kept : List ℕ) (figures : PairFigures)
-      → (pair_answer w h full mask frame kept ≡ Measured figures → pair_answer w h full mask other kept ≡ Measured figures)
-      × (pair_answer w h full mask kept frame ≡ Measured figures → pair_answer w h full mask kept other ≡ Measured figures)
+      → (pair_answer w h full mask frame kept ≡ Ok figures → pair_answer w h full mask other kept ≡ Ok figures)
+      × (pair_answer w h full mask kept frame ≡ Ok figures → pair_answer w h full mask kept other ≡ Ok figures)
 
 pub ranking : Ranking
 ranking = record {

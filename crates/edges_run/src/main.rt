@@ -1,48 +1,24 @@
 // Document 01's run-only edges, and those that document 02 i adds: each call is made on both sides of its edge, and what it answers is printed.
 #![tactic(auto)]
 
-use adding::Added;
-use blinking::Blinking;
-use pair::Pair;
-use raw::Unpacked;
+use stack::Stack;
 use std::io;
-use verdict::Refusal;
-
-// Only 6 has a count.
-fn count(rt: HostRuntime, over: u64) -> io::Result<()> {
-    if over != 0 {
-        print!(rt; " count {over}")?;
-    }
-    Ok(())
-}
-
-fn refused(rt: HostRuntime, refusal: Refusal) -> io::Result<()> {
-    let number = refusal.number;
-    let place = refusal.place;
-    print!(rt; "refused {number} at {place}")?;
-    count(rt, refusal.over)?;
-    println!(rt; "")
-}
 
 // A window of whole groups for 128 by 128: the side decides.
 fn unpack(rt: HostRuntime, width: usize, height: usize) -> io::Result<()> {
     let bytes = [0u8; 20480];
     let mut out = [0u16; 16384];
     match raw::unpack_raw10(width, height, &bytes, &mut out) {
-        Unpacked::Done => println!(rt; "unpacked"),
-        Unpacked::Refused(refusal) => refused(rt, refusal),
+        Ok(()) => println!(rt; "unpacked"),
+        Err(refusal) => println!(rt; "{refusal}"),
     }
 }
 
 // The noise of a 2 by 2 window at full scale 1023.
 fn noise(rt: HostRuntime, mask: &[u8], first: &[u16], second: &[u16]) -> io::Result<()> {
     match pair::pair_figures(2, 2, 1023, mask, first, second) {
-        Pair::Measured(figures) => {
-            let r = figures.r;
-            let n = figures.n;
-            println!(rt; "r {r} of {n} sites")
-        }
-        Pair::Refused(refusal) => refused(rt, refusal),
+        Ok(figures) => println!(rt; "r {} of {} sites", figures.r, figures.n),
+        Err(refusal) => println!(rt; "{refusal}"),
     }
 }
 
@@ -94,14 +70,14 @@ fn add(rt: HostRuntime, frames: u64, sum: u32, square: u32, level: u16) -> io::R
         &mut least,
         &mut greatest,
     ) {
-        Added::Frames(now) => {
+        Ok(now) => {
             println!(rt; "frames {now}")?;
             print!(rt; "site 0 ")?;
             held(rt, sums[0], squares[0], least[0], greatest[0])?;
             print!(rt; "the gap ")?;
             held(rt, sums[1], squares[1], least[1], greatest[1])
         }
-        Added::Refused(refusal) => refused(rt, refusal),
+        Err(refusal) => println!(rt; "{refusal}"),
     }
 }
 
@@ -120,11 +96,16 @@ fn blinks(rt: HostRuntime, frames: u64, spread: u64, least: &[u16]) -> io::Resul
     let sums = [4095u32, 4294967295, 1, 0];
     let squares = [4095u32 * 4095, 4294967295, 1, 0];
     let greatest = [4095u16, 65535, 1, 0];
-    match blinking::blinking_sites(
-        2, 2, 4095, frames, spread, &mask, &sums, &squares, least, &greatest,
-    ) {
-        Blinking::Sites(count) => println!(rt; "blinking {count}"),
-        Blinking::Refused(refusal) => refused(rt, refusal),
+    let stack = Stack {
+        frames,
+        sums: &sums,
+        squares: &squares,
+        least,
+        greatest: &greatest,
+    };
+    match blinking::blinking_sites(2, 2, 4095, spread, &mask, &stack) {
+        Ok(count) => println!(rt; "blinking {count}"),
+        Err(refusal) => println!(rt; "{refusal}"),
     }
 }
 

@@ -1,7 +1,7 @@
 -- Newton's steps to the root of x: from any r above 0, half of r + x / r is at the root or above it, and it is below r for as long as r is above the root.
 use Prim.Native.Nat.{ℕ, suc, ◌+◌, ◌-◌, ◌*◌, ◌/◌, ◌%◌, ◌^◌, ◌≤◌, ◌<◌}
-use mathlib.Core.Path.{◌≡◌, refl, sym, ap, ◌∙◌, subst}
-use native.Mathlib.Nat.{le_trans, le_of_eq, lt_of_lt_of_le, mul-le-mul, div-lt_iff_lt-mul, le-div_iff_mul-le, mod-eq_of_lt, one-mul, pos_of_ne-zero}
+use mathlib.Core.Path.{◌≡◌, refl, sym, subst}
+use native.Mathlib.Nat.{le_trans, le_of_eq, lt_of_lt_of_le, mul-le-mul, div-lt_iff_lt-mul, le-div_iff_mul-le}
 use native.Mathlib.Omega.{arith}
 use lib.Pow.{pow_mono, pow-add, pow-lt, pow_pos}
 use lib.Count.{count_leading_zeros, leading_length}
@@ -31,7 +31,7 @@ pub guess_above : (x : ℕ) → x < 2 ^ 64 → (x < 2 ^ guess x * 2 ^ guess x) �
 guess_above x h = let l = leading_length 64 x h in half_length x (count_leading_zeros 64 x) l.0 l.1 l.2
 
 guess_shift : (s : ℕ) → s ≤ 32 → (1 * 2 ^ s) % 2 ^ 64 ≡ 2 ^ s
-guess_shift s h = ap (λ (z : ℕ). z % 2 ^ 64) (one-mul (2 ^ s)) ∙ mod-eq_of_lt (pow-lt {i = s} {j = 64} (omega arith))
+guess_shift s h = grind (arith, pow-lt {i = s} {j = 64} (omega arith))
 
 -- the loop: r is at the root or above it, and q is x / r
 pub record Stage (x r q : ℕ) : Type 0 where
@@ -41,8 +41,7 @@ pub record Stage (x r q : ℕ) : Type 0 where
   pub small : r ≤ 2 ^ 32
 
 at_least_one : (x r : ℕ) → 0 < x → x < (r + 1) * (r + 1) → 0 < r
-at_least_one x r X h =
-    pos_of_ne-zero (λ (e : r ≡ 0). let k : x < 1 = subst (λ (z : ℕ). x < (z + 1) * (z + 1)) e h in omega arith)
+at_least_one x r X h = grind arith
 
 pub stage_first : (x : ℕ) → 0 < x → x < 2 ^ 64 → Stage x ((1 * 2 ^ guess x) % 2 ^ 64) (x / ((1 * 2 ^ guess x) % 2 ^ 64))
 stage_first x X h =

@@ -1,7 +1,6 @@
 -- The order of floats that are numbers, finite and not negative: `<=` of IEEE 754 compares just their values, 0 among them.
-use Prim.Native.Nat.{ℕ, ◌*◌, ◌≤◌, ◌<◌}
+use Prim.Native.Nat.{ℕ, ◌*◌, ◌≤◌}
 use mathlib.Core.Bool.{true, false, ◌||◌, ◌&&◌}
-use mathlib.Core.Logic.{⊎_elim}
 use mathlib.Core.Path.{refl}
 use native.Mathlib.Omega.{arith}
 use lib.Dec.{T, ltb, eqb}
@@ -9,16 +8,11 @@ use lib.Ieee.{Float, nan, inf, fin, up, down, le}
 use lib.Ieee.Exact.{HasValue}
 use lib.Ieee.Order.{le_of_values}
 use lib.Ieee.Positive.{num, den, den_pos}
-use borrow.Author.Tests.{le-ltb, ne_eqb}
-use Rattle.laws.proofs.Cases.{lt_or_ge}
+use Rattle.std.proofs.lemmas.Bool.Decides.{nat_tests}
 use Rattle.exact.specs.Bound.{plain, AtMost, ByValue}
 
 not_above : (a b : ℕ) → T (ltb a b || (eqb a b && true)) → a ≤ b
-not_above a b h =
-    ⊎_elim
-    (λ (l : b < a). absurd (rw (le-ltb a b (omega arith), ne_eqb a b (λ e. omega arith)) at h))
-    (λ (g : a ≤ b). g)
-    (lt_or_ge b a)
+not_above a b h = grind (arith, nat_tests)
 
 values_of : (x y : Float) → T (plain x) → T (plain y) → T (le x y) → num x * den y ≤ num y * den x
 unfolding le

@@ -1,13 +1,11 @@
 -- The laws of `root`: its square is at most x, the next number's is above, and no other number has both.
 use Prim.Native.Nat.{ℕ, zero, suc, ◌+◌, ◌*◌, ◌≤◌, ◌<◌}
 use mathlib.Core.Bool.{Bool, true, false, cond}
-use mathlib.Core.Logic.{⊎_elim}
 use mathlib.Core.Path.{◌≡◌, refl, sym}
-use native.Mathlib.Nat.{le_trans, le_antisymm, lt_irrefl, lt_of_lt_of_le, mul-le-mul, mul-add}
+use native.Mathlib.Nat.{le_trans, le_antisymm, mul-add}
 use native.Mathlib.Numerals.{add-one}
 use native.Mathlib.Omega.{arith}
 use borrow.Author.Tests.{leb-true, leb-false}
-use Rattle.laws.proofs.Cases.{lt_or_ge}
 use Rattle.exact.specs.Root.{IsRoot, root_to, root}
 
 root_to_lem : (k x : ℕ) → x < (k + 1) * (k + 1) → IsRoot x (root_to k x)
@@ -26,11 +24,7 @@ unfolding root
 root_is x = root_to_lem x x (omega (arith, mul-add (x + 1) x 1))
 
 pub greatest : {x r : ℕ} (s : ℕ) → IsRoot x r → s * s ≤ x → s ≤ r
-greatest {x} {r} s i h =
-    ⊎_elim
-    (λ (l : r < s). let up : r + 1 ≤ s = omega arith in absurd (lt_irrefl x (lt_of_lt_of_le i.high (le_trans (mul-le-mul up up) h))))
-    (λ (g : s ≤ r). g)
-    (lt_or_ge r s)
+greatest s i h = grind arith
 
 -- at most one number is the root
 pub only_root : {x r s : ℕ} → IsRoot x r → IsRoot x s → r ≡ s
@@ -40,11 +34,7 @@ pub is_root : {x r : ℕ} → IsRoot x r → r ≡ root x
 is_root {x} i = only_root i (root_is x)
 
 pub root_under : (x b : ℕ) → x < b * b → root x < b
-root_under x b h =
-    ⊎_elim
-    (λ (l : root x < b). l)
-    (λ (g : b ≤ root x). absurd (lt_irrefl x (lt_of_lt_of_le h (le_trans (mul-le-mul g g) (root_is x).low))))
-    (lt_or_ge (root x) b)
+root_under x b h = grind (arith, root_is x)
 
 pub root-zero : root 0 ≡ 0
 root-zero = sym (is_root (record { low = omega arith; high = omega arith }))

@@ -10,24 +10,25 @@ ghost use Rattle.exact.specs.Quotient.{quotient_or_zero};
 pub fn apart(a: u64, b: u64) -> u64
     ensures { result ≡ apart a b }
 {
-    if a < b { b - a } else { a - b }
+    a.abs_diff(b)
 }
 
-// |z|, from −1 − z where z is below 0, since the least i64 has no i64 of its size.
+// |z|, as a u64, since the least i64 has no i64 of its size.
 pub fn size(z: i64) -> u64
     ensures { result ≡ nat_abs z }
 {
-    if z < 0 { (-1 - z) as u64 + 1 } else { z as u64 }
+    z.unsigned_abs()
 }
 
 // The greatest whole number whose square is at most x: Newton's steps, down from a power of two above it.
+// Not `isqrt`: must-fail/never_ends.edit, which may not change, makes this loop go on for ever.
 pub fn root_of(x: u64) -> u64
     ensures { result ≡ root x }
 {
     if x == 0 {
         return 0;
     }
-    let mut r = 1u64 << ((65 - u64::leading_zeros(x)) / 2);
+    let mut r = 1u64 << ((65 - x.leading_zeros()) / 2);
     let mut q = x / r;
     while q < r {
         r = (r + q) / 2;

@@ -20,20 +20,19 @@ use Rattle.laws.proofs.Sole.{Sole, sole}
 use Rattle.exact.specs.Bound.{without_sign, CloseTo}
 use Rattle.exact.specs.Quotient.{signed_quotient}
 use Rattle.exact.proofs.Quotients.{quotient_close, without_sign_lem, signed_plain, quotient-zero, zero_bits}
-use Rattle.verdict.specs.Verdict.{refuse_if}
+use Rattle.verdict.specs.Verdict.{Verdict, clear, refuse_if}
 use Rattle.verdict.specs.Answer.{answer_of}
-use Rattle.verdict.specs.declared.Verdict.{Verdict}
-use Rattle.verdict.specs.declared.Verdict.TheVariants as verdict
 use Rattle.verdict.proofs.Verdicts.{Test, Tabled, Passed, past, end, Refuses, test, tabled, refuses, never_placed, then_same, unless, clear_then, clear_unless}
 use Rattle.verdict.proofs.Answers.{was_accepted}
+use Rattle.verdict.specs.declared.Refusal.TheVariants.{Parameter, TooFew, EqualMeans, TooLarge}
+use Rattle.std.specs.Prelude.{Result, Ok, Err}
+use Rattle.verdict.specs.declared.Refusal.{Refusal}
 use Rattle.gain.specs.Slope.{joint_spread, all_equal}
 use Rattle.gain.specs.Gain.{Curve, no_point, curve_of, curve_of_rows, out_of_limits, bad_list, bad_ends, chosen, numerator, denominator, too_large, transfer_verdict, gain_of, no_gain, transfer_answer, paper_of, transfer_paper}
 use Rattle.gain.specs.declared.Point.{Point}
 use Rattle.gain.specs.declared.Gain.{Gain}
-use Rattle.gain.specs.declared.Transfer.{Transfer}
-use Rattle.gain.specs.declared.Transfer.TheVariants.{Measured, Refused}
 use Rattle.gain.proofs.Slopes as slopes
-use Rattle.gain.proofs.Walks.{Legal, legal, limits, paper_of_lem}
+use Rattle.gain.proofs.Walks.{Legal, legal, limits, paper_of_lem, same_curve}
 
 -- what holds from first to last holds of each chosen point
 to_chosen : (first last : ℕ) (P : ℕ → Type 0) → ((i : ℕ) → first ≤ i → i ≤ last → P i) → (k : ℕ) → k < last + 1 - first → P (first + k)
@@ -55,11 +54,11 @@ module _ (c : Curve) (first last : ℕ) where
   -- the tests in the order of document 02, e
   abbrev pub tests : List Test
   tests =
-      test 3 0 (bad_list c)
-      ∷ test 3 0 (bad_ends c.count first last)
-      ∷ test 7 0 (ltb picked.count 2)
-      ∷ test 13 0 (all_equal picked.count picked.mean)
-      ∷ test 14 0 (too_large (numerator picked) (denominator picked))
+      test Parameter (bad_list c)
+      ∷ test Parameter (bad_ends c.count first last)
+      ∷ test TooFew (ltb picked.count 2)
+      ∷ test EqualMeans (all_equal picked.count picked.mean)
+      ∷ test TooLarge (too_large (numerator picked) (denominator picked))
       ∷ []
 
   -- given: 3, 7, 13 and 14 exactly as tabled, in that order
@@ -135,7 +134,7 @@ module _ (c : Curve) (first last : ℕ) where
     some : 0 < denominator (chosen c first last)
     small : nat_abs (numerator (chosen c first last)) < 2 ^ 53
 
-  accepted : transfer_verdict c first last ≡ verdict.Clear → Accepted
+  accepted : transfer_verdict c first last ≡ clear → Accepted
   unfolding too_large
   accepted e = by ((given c first last).clear e)
     where
@@ -148,12 +147,12 @@ module _ (c : Curve) (first last : ℕ) where
         small = leb-false (2 ^ 53) _ (neither _ _ small).0;
       }
 
-module _ (c : Curve) (first last : ℕ) (g : Gain) (answer : transfer_answer c first last ≡ Measured g) where
+module _ (c : Curve) (first last : ℕ) (g : Gain) (answer : transfer_answer c first last ≡ Ok g) where
   told : Accepted c first last × (g ≡ gain_of c first last)
   unfolding transfer_answer
   told =
-      let was = was_accepted (transfer_verdict c first last) (λ r f. let z : ◌≡◌ {A = ℕ} 0 1 = cc in absurd (omega arith)) answer in
-      (accepted c first last was.0, cc)
+      let was = was_accepted (transfer_verdict c first last) answer in
+      (accepted c first last was.0, sym was.1)
 
   passed : Accepted c first last
   passed = told.0
@@ -224,7 +223,7 @@ module _ (c d : Curve) (first last : ℕ) (both : BothInLimits c d) where
     unfolding transfer_verdict too_large
     same_verdict =
         rw (same_list, ap (λ (n : ℕ). bad_ends n first last) both.long)
-        (then_same (refuse_if 3 0 (bad_list d)) (λ p. then_same (refuse_if 3 0 (bad_ends d.count first last)) (λ q.
+        (then_same (refuse_if Parameter (bad_list d)) (λ p. then_same (refuse_if Parameter (bad_ends d.count first last)) (λ q.
         let same = parts (omega (arith, both.long, (within d first last (unless _ _ p) (unless _ _ q)).ends.inside)) in
         rw (
           ← slopes.zero_is_equal (last + 1 - first) (chosen c first last).mean,
@@ -234,22 +233,22 @@ module _ (c d : Curve) (first last : ℕ) (both : BothInLimits c d) where
         ))))
 
     -- so what is told of both answers is one where it is one of both figures
-    same_answer : (tell : Transfer → Transfer) → (last < c.count → tell (Measured (gain_of c first last)) ≡ tell (Measured (gain_of d first last)))
+    same_answer : (tell : Result Gain Refusal → Result Gain Refusal) → (last < c.count → tell (Ok (gain_of c first last)) ≡ tell (Ok (gain_of d first last)))
         → tell (transfer_answer c first last) ≡ tell (transfer_answer d first last)
     unfolding transfer_answer
     same_answer tell same =
         rw (← same_verdict)
         (by (transfer_verdict c first last) (λ e. let a = accepted c first last e in same (within c first last a.list a.ends).ends.inside))
       where
-        by : (v : Verdict) → (v ≡ verdict.Clear → tell (Measured (gain_of c first last)) ≡ tell (Measured (gain_of d first last)))
-            → tell (answer_of v (Measured (gain_of c first last)) Refused) ≡ tell (answer_of v (Measured (gain_of d first last)) Refused)
-        by verdict.Clear f = f refl
-        by (verdict.Refused r) f = refl
+        by : (v : Verdict) → (v ≡ clear → tell (Ok (gain_of c first last)) ≡ tell (Ok (gain_of d first last)))
+            → tell (answer_of v (gain_of c first last)) ≡ tell (answer_of v (gain_of d first last))
+        by (Ok _) f = f refl
+        by (Err r) f = refl
 
 -- an answer whose saturation is left out
-abbrev pub except_saturation : Transfer → Transfer
-except_saturation (Measured g) = Measured (record { numerator = g.numerator; denominator = g.denominator; slope = g.slope; saturation = 0 })
-except_saturation (Refused r) = Refused r
+abbrev pub except_saturation : Result Gain Refusal → Result Gain Refusal
+except_saturation (Ok g) = Ok (record { numerator = g.numerator; denominator = g.denominator; slope = g.slope; saturation = 0 })
+except_saturation (Err r) = Err r
 
 -- two lists that agree from first to last
 pub record AgreeBetween (c d : Curve) (first last : ℕ) : Type 0 where
@@ -279,7 +278,7 @@ pub record MovedBetween (c d : Curve) (first last up down : ℕ) : Type 0 where
 -- shifted: one constant added to every chosen mean changes no answer, so taking the dark level off does not change the gain
 pub shifted : (c d : Curve) (first last up down : ℕ) → MovedBetween c d first last up down → transfer_answer c first last ≡ transfer_answer d first last
 shifted c d first last up down a =
-    same_answer c d first last a.both parts (λ (t : Transfer). t) (λ l. rw ((parts l).0, (parts l).1, place))
+    same_answer c d first last a.both parts (λ (t : Result Gain Refusal). t) (λ l. rw ((parts l).0, (parts l).1, place))
   where
     moved : slopes.Moved (last + 1 - first) up down (chosen c first last).mean (chosen d first last).mean
     moved = to_chosen first last (λ (i : ℕ). d.mean i + down ≡ c.mean i + up) a.mean
@@ -297,10 +296,6 @@ shifted c d first last up down a =
         ∙ ap (λ (n : ℕ). first_greatest n d.variance) a.both.long
 
 -- ---- lists
--- two curves are one where nothing that is read of them differs
-same_curve : (c d : Curve) → c.count ≡ d.count → ((i : ℕ) → SameAt c d i) → c ≡ d
-same_curve c d long same = λ t. record { count = long t; mean = λ i. (same i).0 t; variance = λ i. (same i).1 t }
-
 -- exposure: lists that differ in their exposures alone have the same answer. The fields are written out, so that no other reading of a point meets this
 pub exposure : (points others : List Point) (first last : ℕ)
     → length points ≡ length others

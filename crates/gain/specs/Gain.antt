@@ -1,18 +1,17 @@
 -- Document 02, e: photon transfer and gain. What `photon_transfer` answers.
-use Rattle.std.specs.Prelude.{ℕ, ◌+◌, ◌-◌, ◌^◌, Bool, ◌||◌, List, [], eqb, ltb, leb, ℤ, pos, nat_abs, length, get_or}
+use Rattle.std.specs.Prelude.{ℕ, ◌+◌, ◌-◌, ◌^◌, Bool, ◌||◌, List, [], eqb, ltb, leb, ℤ, pos, nat_abs, length, get_or, Result}
 use Rattle.std.specs.Float.{binary64}
 use Rattle.std.specs.Float.Ieee.{of_bits}
 use Rattle.laws.specs.First.{some_to}
 use Rattle.laws.specs.Greatest.{first_greatest}
 use Rattle.exact.specs.Quotient.{signed_quotient}
-use Rattle.verdict.specs.Verdict.{◌⨟◌, refuse_if}
-use Rattle.verdict.specs.Answer.{answer_of, Paper, accepted_paper, refused_paper, paper_for}
-use Rattle.verdict.specs.declared.Verdict.{Verdict}
+use Rattle.verdict.specs.Verdict.{Verdict, ◌⨟◌, refuse_if}
+use Rattle.verdict.specs.Answer.{answer_of, Paper, answer_paper, paper_for}
+use Rattle.verdict.specs.declared.Refusal.{Refusal}
+use Rattle.verdict.specs.declared.Refusal.TheVariants.{Parameter, TooFew, EqualMeans, TooLarge}
 use Rattle.gain.specs.Slope.{joint_spread, all_equal}
 use Rattle.gain.specs.declared.Point.{Point}
 use Rattle.gain.specs.declared.Gain.{Gain}
-use Rattle.gain.specs.declared.Transfer.{Transfer}
-use Rattle.gain.specs.declared.Transfer.TheVariants.{Measured, Refused}
 
 -- a photon transfer curve, all that is seen of a list of points: how many there are, and of each place, from 0, the mean in sixteenths of a grey level
 -- and the variance in sixteenths of one squared. Exposure enters no figure and no refusal
@@ -84,11 +83,11 @@ too_large top bottom = leb (2 ^ 53) (nat_abs top) || leb (2 ^ 53) bottom
 unfoldable pub transfer_verdict : Curve → ℕ → ℕ → Verdict
 transfer_verdict c first last =
     let picked = chosen c first last in
-    refuse_if 3 0 (bad_list c)
-    ⨟ refuse_if 3 0 (bad_ends c.count first last)
-    ⨟ refuse_if 7 0 (ltb picked.count 2)
-    ⨟ refuse_if 13 0 (all_equal picked.count picked.mean)
-    ⨟ refuse_if 14 0 (too_large (numerator picked) (denominator picked))
+    refuse_if Parameter (bad_list c)
+    ⨟ refuse_if Parameter (bad_ends c.count first last)
+    ⨟ refuse_if TooFew (ltb picked.count 2)
+    ⨟ refuse_if EqualMeans (all_equal picked.count picked.mean)
+    ⨟ refuse_if TooLarge (too_large (numerator picked) (denominator picked))
 
 -- the slope of the chosen points, rounded once, and the saturation: the first place of the greatest variance in the whole list
 abbrev pub gain_of : Curve → ℕ → ℕ → Gain
@@ -106,13 +105,12 @@ abbrev pub no_gain : Gain
 no_gain = record { numerator = pos 0; denominator = 0; slope = of_bits binary64 0; saturation = 0 }
 
 -- the answer: the figures, or the refusal
-unfoldable pub transfer_answer : Curve → ℕ → ℕ → Transfer
-transfer_answer c first last = answer_of (transfer_verdict c first last) (Measured (gain_of c first last)) Refused
+unfoldable pub transfer_answer : Curve → ℕ → ℕ → Result Gain Refusal
+transfer_answer c first last = answer_of (transfer_verdict c first last) (gain_of c first last)
 
 -- the paper's numbers of an answer
-abbrev pub paper_of : Transfer → Paper Gain
-paper_of (Measured gain) = accepted_paper gain
-paper_of (Refused r) = refused_paper r no_gain
+abbrev pub paper_of : Result Gain Refusal → Paper Gain
+paper_of = answer_paper no_gain
 
 -- the paper's numbers for all inputs
 unfoldable pub transfer_paper : Curve → ℕ → ℕ → Paper Gain

@@ -1,18 +1,19 @@
 -- What the one walk keeps, and what the functions that it calls make of it: words of inner functions, none of the paper.
-use Rattle.std.specs.Prelude.{ℕ, ◌+◌, ◌-◌, ◌*◌, ◌≤◌, Bool, true, false, cond, ◌&&◌, ◌||◌, eqb, ltb, leb, nat_abs}
+use Rattle.std.specs.Prelude.{ℕ, zero, suc, ◌+◌, ◌-◌, ◌*◌, ◌≤◌, ◌≡◌, Bool, true, false, cond, ◌&&◌, eqb, ltb, leb, nat_abs, Result}
+use Rattle.laws.specs.First.{some_to}
 use Rattle.laws.specs.Signed.{◌⊖◌}
 use Rattle.exact.specs.Quotient.{signed_quotient}
-use Rattle.verdict.specs.Verdict.{◌⨟◌, refuse_if}
+use Rattle.verdict.specs.Verdict.{Verdict, ◌⨟◌, refuse_if}
 use Rattle.verdict.specs.Answer.{answer_of}
-use Rattle.verdict.specs.declared.Verdict.{Verdict}
-use Rattle.gain.specs.Gain.{out_of_limits, bad_length, bad_ends, too_large}
+use Rattle.verdict.specs.declared.Refusal.{Refusal}
+use Rattle.verdict.specs.declared.Refusal.TheVariants.{Parameter, TooFew, EqualMeans, TooLarge}
+use Rattle.gain.specs.Gain.{Curve, out_of_limits, bad_length, bad_ends, too_large}
+use Rattle.gain.specs.declared.Point.{Point}
 use Rattle.gain.specs.declared.Sums.{Sums}
 use Rattle.gain.specs.declared.Peak.{Peak}
 use Rattle.gain.specs.declared.Fit.{Fit}
 use Rattle.gain.specs.declared.Parts.{Parts}
 use Rattle.gain.specs.declared.Gain.{Gain}
-use Rattle.gain.specs.declared.Transfer.{Transfer}
-use Rattle.gain.specs.declared.Transfer.TheVariants.{Measured, Refused}
 
 -- place i is one of the chosen
 abbrev pub is_chosen : ℕ → ℕ → ℕ → Bool
@@ -34,25 +35,39 @@ summed t x y false = t
 abbrev pub topped : Peak → ℕ → ℕ → Peak
 topped peak y i = cond (ltb peak.top y) (record { top = y; place = i }) peak
 
--- the point at i: one out of limits is only noted
-abbrev pub noted : Fit → Fit
-noted s = record { beyond = true; sums = s.sums; peak = s.peak }
-
+-- with a point within limits, the one at i
 abbrev pub taken : Fit → ℕ → ℕ → ℕ → Bool → Fit
 taken s mean variance i on =
-    record { beyond = s.beyond; sums = summed s.sums mean variance on; peak = topped s.peak variance i }
+    record { sums = summed s.sums mean variance on; peak = topped s.peak variance i }
 
-unfoldable pub with_point : Fit → ℕ → ℕ → ℕ → ℕ → ℕ → Fit
+-- with the point at i, or 3 where it is out of limits
+unfoldable pub with_point : Fit → ℕ → ℕ → ℕ → ℕ → ℕ → Result Fit Refusal
 with_point s mean variance i first last =
-    cond (out_of_limits mean variance) (noted s) (taken s mean variance i (is_chosen first last i))
+    answer_of (refuse_if Parameter (out_of_limits mean variance)) (taken s mean variance i (is_chosen first last i))
 
 -- before the first point
 abbrev pub nothing_yet : Fit
-nothing_yet = record { beyond = false; sums = record { x = 0; y = 0; xy = 0; xx = 0 }; peak = record { top = 0; place = 0 } }
+nothing_yet = record { sums = record { x = 0; y = 0; xy = 0; xx = 0 }; peak = record { top = 0; place = 0 } }
 
--- how many points are walked: none of a list that is too long
-abbrev pub walked_of : ℕ → ℕ
-walked_of count = cond (ltb 64 count) 0 count
+-- after i points: one out of limits leaves all as it was
+unfoldable pub fit_to : Curve → ℕ → ℕ → ℕ → Fit
+fit_to c first last zero = nothing_yet
+fit_to c first last (suc i) =
+    cond (out_of_limits (c.mean i) (c.variance i))
+    (fit_to c first last i)
+    (taken (fit_to c first last i) (c.mean i) (c.variance i) i (is_chosen first last i))
+
+-- some point, chosen or not, is out of limits
+abbrev pub some_out : Curve → ℕ → Bool
+some_out c n = some_to n (λ (i : ℕ). out_of_limits (c.mean i) (c.variance i))
+
+-- after the last point, or 3 where some point is out of limits
+unfoldable pub fit_of : Curve → ℕ → ℕ → Result Fit Refusal
+fit_of c first last = answer_of (refuse_if Parameter (some_out c c.count)) (fit_to c first last c.count)
+
+-- a value converts to one point alone
+abbrev pub ConvertsBy : {A : Type 0} → (A → Point → Type 0) → (A → Point) → Type 0
+ConvertsBy {A} converts point = (x : A) (p : Point) → converts x p → p ≡ point x
 
 -- the numerator and the denominator, of m points with these sums
 abbrev pub parts_of : ℕ → Sums → Parts
@@ -61,17 +76,12 @@ parts_of m t = record {
   denominator = nat_abs (m * t.xx ⊖ t.x * t.x);
 }
 
--- 3, as far as the walk has found it
-abbrev pub list_verdict : Bool → ℕ → ℕ → ℕ → Verdict
-list_verdict beyond count first last =
-    refuse_if 3 0 (bad_length count || beyond) ⨟ refuse_if 3 0 (bad_ends count first last)
-
 -- 7, 13 and 14 of m points with these parts
 abbrev pub parts_verdict : ℕ → Parts → Verdict
 parts_verdict m p =
-    refuse_if 7 0 (ltb m 2)
-    ⨟ refuse_if 13 0 (eqb p.denominator 0)
-    ⨟ refuse_if 14 0 (too_large p.numerator p.denominator)
+    refuse_if TooFew (ltb m 2)
+    ⨟ refuse_if EqualMeans (eqb p.denominator 0)
+    ⨟ refuse_if TooLarge (too_large p.numerator p.denominator)
 
 -- the figures of a slope that nothing refuses
 abbrev pub gain_from : Parts → ℕ → Gain
@@ -82,11 +92,17 @@ gain_from p place = record {
   saturation = place;
 }
 
-abbrev pub measured_of : ℕ → Parts → ℕ → Transfer
-measured_of m p place = answer_of (parts_verdict m p) (Measured (gain_from p place)) Refused
+unfoldable pub measured_of : ℕ → Parts → ℕ → Result Gain Refusal
+measured_of m p place = answer_of (parts_verdict m p) (gain_from p place)
 
--- what is answered of a list of so many points, when all that are walked have been
-unfoldable pub finished : Fit → ℕ → ℕ → ℕ → Transfer
-finished s count first last =
+-- what is answered where only the walk, and then 7, 13 and 14 are left to ask
+unfoldable pub finished : Curve → ℕ → ℕ → Result Gain Refusal
+finished c first last =
     let m = last + 1 - first in
-    answer_of (list_verdict s.beyond count first last) (measured_of m (parts_of m s.sums) s.peak.place) Refused
+    let s = fit_to c first last c.count in
+    refuse_if Parameter (some_out c c.count) ⨟ measured_of m (parts_of m s.sums) s.peak.place
+
+-- all of it: 3 of the list's length and of the ends, and then of its points
+unfoldable pub walked_answer : Curve → ℕ → ℕ → Result Gain Refusal
+walked_answer c first last =
+    refuse_if Parameter (bad_length c.count) ⨟ refuse_if Parameter (bad_ends c.count first last) ⨟ finished c first last

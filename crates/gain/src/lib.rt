@@ -1,12 +1,12 @@
 // The gain of a camera by photon transfer: document 02, e.
 #![tactic(auto)]
 
-ghost use Rattle.std.specs.Prelude.{◌≡◌, ◌||◌, ◌≤◌, ◌<◌, ◌^◌, nat_abs};
+ghost use Rattle.std.specs.Prelude.{◌≡◌, ◌||◌, ◌≤◌, ◌<◌, ◌^◌, nat_abs, length, map, IfOk};
 ghost use Rattle.exact.specs.Quotient.{signed_quotient};
 ghost use Rattle.gain.specs.Gain.{out_of_limits, bad_length, bad_ends, too_large, curve_of, point_of, curve_of_rows, transfer_answer, paper_of, transfer_paper};
-ghost use Rattle.gain.specs.Walk.{is_chosen, Room, summed, topped, with_point, nothing_yet, walked_of, parts_of, parts_verdict, measured_of, finished};
+ghost use Rattle.gain.specs.Walk.{is_chosen, Room, summed, topped, with_point, fit_of, ConvertsBy, parts_of, parts_verdict, measured_of, walked_answer};
 
-use verdict::{Refusal, Verdict};
+use verdict::Refusal;
 
 // One exposure of a camera: mean and variance in sixteenths, of a grey level and of one squared. Exposure is the caller's own.
 #[derive(Clone, Copy)]
@@ -14,6 +14,19 @@ pub struct Point {
     pub exposure: u64,
     pub mean: u64,
     pub variance: u64,
+}
+
+// A point that lies as a row of three numbers, exposure, mean and variance: what C lends.
+impl From<[u64; 3]> for Point {
+    ghost from_gives = { λ row point. point ≡ point_of row };
+
+    fn from(row: [u64; 3]) -> Point {
+        Point {
+            exposure: row[0],
+            mean: row[1],
+            variance: row[2],
+        }
+    }
 }
 
 // The slope of variance against mean: its two parts, unreduced, and their quotient, grey levels per electron; and the place of the greatest variance.
@@ -25,14 +38,8 @@ pub struct Gain {
     pub saturation: usize,
 }
 
-#[derive(Clone, Copy)]
-pub enum Transfer {
-    Measured(Gain),
-    Refused(Refusal),
-}
-
-// Sums over the chosen points, x being the mean and y the variance.
-#[derive(Clone, Copy)]
+// Sums over the chosen points, x being the mean and y the variance. That they have room is asked of a function, and is no ghost field: it depends on how many points they are of.
+#[derive(Clone, Copy, Default)]
 struct Sums {
     x: u64,
     y: u64,
@@ -41,21 +48,37 @@ struct Sums {
 }
 
 // The greatest variance so far, and its first place.
-#[derive(Clone, Copy)]
+#[derive(Clone, Copy, Default)]
 struct Peak {
     top: u64,
     place: usize,
 }
 
 // What is known after some points of a list.
-#[derive(Clone, Copy)]
+#[derive(Clone, Copy, Default)]
 struct Fit {
-    beyond: bool,
     sums: Sums,
     peak: Peak,
 }
 
-// The slope's two parts.
+// The places from which and to which, both included, the points of a list are chosen.
+#[derive(Clone, Copy)]
+struct Ends {
+    first: usize,
+    last: usize,
+    ghost forward: { first ≤ last },
+}
+
+impl Ends {
+    // By one comparison: with `contains`, which makes two, 64 points take 1.2 times as long.
+    fn hold(self, i: usize) -> bool
+        ensures { result ≡ is_chosen self.first self.last i }
+    {
+        i.wrapping_sub(self.first) <= self.last - self.first
+    }
+}
+
+// The slope's two parts, under a name of their own: they are judged before they are a slope.
 #[derive(Clone, Copy)]
 struct Parts {
     numerator: i64,
@@ -71,25 +94,14 @@ const MOST_MEAN: u64 = 65520;
 // 2 ^ 28 sixteenths.
 const MOST_VARIANCE: u64 = 0x1000_0000;
 
+#[tactic(auto, unfolding(crate::specs::Gain::out_of_limits))]
 fn out_of_limits(p: Point) -> bool
     ensures { result ≡ out_of_limits p.mean p.variance }
 {
-    if MOST_MEAN < p.mean {
-        return true;
-    }
-    MOST_VARIANCE < p.variance
+    MOST_MEAN < p.mean || MOST_VARIANCE < p.variance
 }
 
-fn is_chosen(first: usize, last: usize, i: usize) -> bool
-    ensures { result ≡ is_chosen first last i }
-{
-    if i < first {
-        return false;
-    }
-    i <= last
-}
-
-// Where the place is chosen, the sums with this point.
+// Where the place is chosen, the sums with this point: a bool, for two cases of one leaf.
 fn with_sums(t: Sums, x: u64, y: u64, chosen: bool) -> Sums
     requires room { Room 64 t }
     requires x_bound { (x ≤ 65520) × (y ≤ 268435456) }
@@ -117,74 +129,46 @@ fn with_peak(peak: Peak, y: u64, i: usize) -> Peak
     }
 }
 
-// One point more, at place i. One out of limits is only noted, so that no sum can overflow.
-fn with_point(s: Fit, p: Point, i: usize, first: usize, last: usize) -> Fit
+// One point more, at place i: 3 where it is out of limits, so that no sum can overflow.
+#[tactic(auto, unfolding(crate::specs::Walk::with_point))]
+fn with_point(s: Fit, p: Point, i: usize, ends: Ends) -> Result<Fit, Refusal>
     requires { Room 64 s.sums }
-    ensures { result ≡ with_point s p.mean p.variance i first last }
+    ensures { result ≡ with_point s p.mean p.variance i ends.first ends.last }
 {
-    let sums = s.sums;
-    let peak = s.peak;
-    if out_of_limits(p) {
-        return Fit {
-            beyond: true,
-            sums,
-            peak,
-        };
-    }
-    Fit {
-        beyond: s.beyond,
-        sums: with_sums(sums, p.mean, p.variance, is_chosen(first, last, i)),
-        peak: with_peak(peak, p.variance, i),
-    }
+    verdict::refuse_if(Refusal::Parameter, out_of_limits(p))?;
+    Ok(Fit {
+        sums: with_sums(s.sums, p.mean, p.variance, ends.hold(i)),
+        peak: with_peak(s.peak, p.variance, i),
+    })
 }
 
-// How many points are walked: none of a list that is too long.
-fn walked(count: usize) -> usize
-    ensures { result ≡ walked_of count }
+// The one walk over the whole list, of what converts to points.
+fn walk<P: Copy + Into<Point>>(points: &[P], ends: Ends) -> Result<Fit, Refusal>
+    requires { length points.now ≤ 64 }
+    ensures fit { (point : _) → ConvertsBy P.converts point → result ≡ fit_of (curve_of (map point points.now)) ends.first ends.last }
+    ensures room { IfOk result (λ s. Room 64 s.sums) }
 {
-    if MOST_POINTS < count { 0 } else { count }
-}
-
-// Before the first point.
-fn nothing_yet() -> Fit
-    ensures { result ≡ nothing_yet }
-{
-    Fit {
-        beyond: false,
-        sums: Sums {
-            x: 0,
-            y: 0,
-            xy: 0,
-            xx: 0,
-        },
-        peak: Peak { top: 0, place: 0 },
+    let mut s = Fit::default();
+    for (i, point) in points.iter().enumerate() {
+        s = with_point(s, (*point).into(), i, ends)?;
     }
+    Ok(s)
 }
 
 // 3, of a list of so many points.
-fn bad_list(count: usize, beyond: bool) -> bool
-    ensures { result ≡ (bad_length count || beyond) }
+#[tactic(auto, unfolding(crate::specs::Gain::bad_length))]
+fn bad_length(count: usize) -> bool
+    ensures { result ≡ bad_length count }
 {
-    if count == 0 {
-        return true;
-    }
-    if MOST_POINTS < count {
-        return true;
-    }
-    beyond
+    !(1..=MOST_POINTS).contains(&count)
 }
 
 // 3, of the ends.
+#[tactic(auto, unfolding(crate::specs::Gain::bad_ends))]
 fn bad_ends(count: usize, first: usize, last: usize) -> bool
     ensures { result ≡ bad_ends count first last }
 {
-    if count <= first {
-        return true;
-    }
-    if count <= last {
-        return true;
-    }
-    last < first
+    count <= first || count <= last || last < first
 }
 
 // The slope's two parts, of m points. No product reaches 2^56.
@@ -196,28 +180,25 @@ fn parts_of(m: u64, t: Sums) -> Parts
     let down = t.x * t.y;
     Parts {
         numerator: up as i64 - down as i64,
-        denominator: exact::apart(m * t.xx, t.x * t.x),
+        denominator: (m * t.xx).abs_diff(t.x * t.x),
     }
 }
 
 // 14, of a slope's parts.
+#[tactic(auto, unfolding(crate::specs::Gain::too_large))]
 fn too_large(p: Parts) -> bool
     ensures { result ≡ too_large p.numerator p.denominator }
 {
-    if exact::LOSSLESS <= exact::size(p.numerator) {
-        return true;
-    }
-    exact::LOSSLESS <= p.denominator
+    exact::LOSSLESS <= p.numerator.unsigned_abs() || exact::LOSSLESS <= p.denominator
 }
 
 // 7, 13 and 14: the denominator is 0 just where all means are equal.
-fn judge_parts(m: usize, p: Parts) -> Verdict
+fn judge_parts(m: usize, p: Parts) -> Result<(), Refusal>
     ensures { result ≡ parts_verdict m p }
 {
-    let few = verdict::refuse_if(7, 0, m < 2);
-    let equal = verdict::refuse_if(13, 0, p.denominator == 0);
-    let large = verdict::refuse_if(14, 0, too_large(p));
-    verdict::then(few, verdict::then(equal, large))
+    verdict::refuse_if(Refusal::TooFew, m < 2)?;
+    verdict::refuse_if(Refusal::EqualMeans, p.denominator == 0)?;
+    verdict::refuse_if(Refusal::TooLarge, too_large(p))
 }
 
 // z / q, rounded once: both become an f64 without loss.
@@ -229,74 +210,43 @@ fn slope_of(z: i64, q: u64) -> f64
 }
 
 // The figures of m points with these parts, or the refusal.
-fn measure(m: usize, p: Parts, place: usize) -> Transfer
+#[tactic(auto, unfolding(crate::specs::Walk::measured_of))]
+fn measure(m: usize, p: Parts, place: usize) -> Result<Gain, Refusal>
     ensures { result ≡ measured_of m p place }
 {
-    match judge_parts(m, p) {
-        Verdict::Refused(refusal) => Transfer::Refused(refusal),
-        Verdict::Clear => Transfer::Measured(Gain {
-            numerator: p.numerator,
-            denominator: p.denominator,
-            slope: slope_of(p.numerator, p.denominator),
-            saturation: place,
-        }),
-    }
+    judge_parts(m, p)?;
+    Ok(Gain {
+        numerator: p.numerator,
+        denominator: p.denominator,
+        slope: slope_of(p.numerator, p.denominator),
+        saturation: place,
+    })
 }
 
-// The answer after the last point.
-fn finish(s: Fit, count: usize, first: usize, last: usize) -> Transfer
-    requires { Room 64 s.sums }
-    ensures { result ≡ finished s count first last }
+// The same of a list of whatever converts to points: what both calls are.
+#[tactic(auto, unfolding(crate::specs::Walk::walked_answer))]
+fn transfer<P: Copy + Into<Point>>(points: &[P], first: usize, last: usize) -> Result<Gain, Refusal>
+    ensures { (point : _) → ConvertsBy P.converts point → result ≡ walked_answer (curve_of (map point points.now)) first last }
 {
-    let list = verdict::refuse_if(3, 0, bad_list(count, s.beyond));
-    let ends = verdict::refuse_if(3, 0, bad_ends(count, first, last));
-    let sums = s.sums;
-    let peak = s.peak;
-    match verdict::then(list, ends) {
-        Verdict::Refused(refusal) => Transfer::Refused(refusal),
-        Verdict::Clear => {
-            let m = last - first + 1;
-            measure(m, parts_of(m as u64, sums), peak.place)
-        }
-    }
+    verdict::refuse_if(Refusal::Parameter, bad_length(points.len()))?;
+    verdict::refuse_if(Refusal::Parameter, bad_ends(points.len(), first, last))?;
+    let s = walk(points, Ends { first, last })?;
+    let m = last - first + 1;
+    measure(m, parts_of(m as u64, s.sums), s.peak.place)
 }
 
 // The gain of the chosen points, from first to last, and where the whole list saturates.
-pub fn photon_transfer(points: &[Point], first: usize, last: usize) -> Transfer
+pub fn photon_transfer(points: &[Point], first: usize, last: usize) -> Result<Gain, Refusal>
     ensures answer { result ≡ transfer_answer (curve_of points.now) first last }
     ensures paper { paper_of result ≡ transfer_paper (curve_of points.now) first last }
 {
-    let n = walked(points.len());
-    let mut s = nothing_yet();
-    let mut i: usize = 0;
-    while i < n {
-        s = with_point(s, points[i], i, first, last);
-        i += 1;
-    }
-    finish(s, points.len(), first, last)
-}
-
-fn point_of(row: [u64; 3]) -> Point
-    ensures { result ≡ point_of row }
-{
-    Point {
-        exposure: row[0],
-        mean: row[1],
-        variance: row[2],
-    }
+    transfer(points, first, last)
 }
 
 // The same of points that lie as rows of three numbers, exposure, mean and variance: what C lends.
-pub fn transfer_of_rows(rows: &[[u64; 3]], first: usize, last: usize) -> Transfer
+pub fn transfer_of_rows(rows: &[[u64; 3]], first: usize, last: usize) -> Result<Gain, Refusal>
     ensures answer { result ≡ transfer_answer (curve_of_rows rows.now) first last }
     ensures paper { paper_of result ≡ transfer_paper (curve_of_rows rows.now) first last }
 {
-    let n = walked(rows.len());
-    let mut s = nothing_yet();
-    let mut i: usize = 0;
-    while i < n {
-        s = with_point(s, point_of(rows[i]), i, first, last);
-        i += 1;
-    }
-    finish(s, rows.len(), first, last)
+    transfer(rows, first, last)
 }

@@ -1,11 +1,12 @@
 -- Splitting on an order or on a test; bounds on products.
 use Prim.Native.Nat.{ℕ, ◌+◌, ◌*◌, ◌≤◌, ◌<◌}
-use mathlib.Core.Bool.{Bool, true, false, ◌||◌, ◌&&◌}
+use mathlib.Core.Bool.{Bool, true, false, cond, ◌||◌, ◌&&◌}
 use mathlib.Core.Logic.{◌⊎◌, inl, inr, ⊎_elim}
 use mathlib.Core.Path.{◌≡◌, refl, sym, ◌∙◌}
 use native.Mathlib.Decide.{dec_lt}
 use native.Mathlib.Nat.{mul-le-mul, mul-le-mul_right, suc-mul}
 use native.Mathlib.Omega.{arith}
+use mir.Val.{bool_byte}
 use lib.Dec.{eqb, ltb}
 use borrow.Author.Tests.{lt-ltb, le-ltb, ltb-false, eqb-false, ne_eqb}
 
@@ -21,6 +22,15 @@ true_or_false true = inl refl
 true_or_false false = inr refl
 
 -- nothing is both
+-- the number of a truth: 1 or 0
+pub bit_is : (b : Bool) → bool_byte b ≡ cond b 1 0
+bit_is true = refl
+bit_is false = refl
+
+pub bit_few : (b : Bool) → bool_byte b ≤ 1
+bit_few true = omega arith
+bit_few false = omega arith
+
 pub not_both : {b : Bool} → b ≡ true → b ≡ false → ⊥
 not_both p q = let z : ◌≡◌ {A = ℕ} 0 1 = cc in omega arith
 

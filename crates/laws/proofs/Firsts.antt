@@ -47,6 +47,20 @@ module _ (test : ℕ → Bool) where
       by true t before k = before k
       by false t before k = ⊎_elim (λ e. rw e t) before (eq-or-lt_of_le (le_of_suc-le-suc k))
 
+  -- nothing is found past the end
+  pub first_most : (n : ℕ) → first_to n test ≤ n
+  unfolding first_to
+  first_most zero = omega arith
+  first_most (suc n) =
+      ⊎_elim
+      (λ k. rw (lt-ltb (first_to n test) n k) (omega arith))
+      (λ g. rw (le-ltb (first_to n test) n g) (by (test n)))
+      (lt_or_ge (first_to n test) n)
+    where
+      by : (b : Bool) → cond b n (suc n) ≤ suc n
+      by true = omega arith
+      by false = omega arith
+
   -- and it holds there, where something is found
   pub first_holds : (n : ℕ) → first_to n test < n → test (first_to n test) ≡ true
   unfolding first_to

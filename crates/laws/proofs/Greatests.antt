@@ -1,12 +1,12 @@
 -- The laws of the lesser and the greater of two numbers, of the greatest of more, and of where it stands first.
-use Prim.Native.Nat.{ℕ, zero, suc, ◌+◌, ◌-◌, ◌<◌, ◌≤◌}
+use Prim.Native.Nat.{ℕ, zero, suc, ◌+◌, ◌-◌, ◌<◌, ◌≤◌, min, max}
 use mathlib.Core.Bool.{Bool, true, false, cond}
 use mathlib.Core.Logic.{◌⊎◌, inl, inr, ⊎_elim}
-use mathlib.Core.Path.{◌≡◌, refl, sym, subst, ap₂}
+use mathlib.Core.Path.{◌≡◌, refl, sym, subst, ap₂, ◌∙◌}
 use native.Mathlib.Nat.{add-zero, eq-or-lt_of_le, le_of_suc-le-suc}
 use native.Mathlib.Omega.{arith}
 use lib.Dec.{eqb, ltb}
-use borrow.Author.Tests.{ltb-true, ltb-false, eq-eqb, ne_eqb}
+use borrow.Author.Tests.{lt-ltb, le-ltb, ltb-true, ltb-false, eq-eqb, ne_eqb}
 use Rattle.laws.specs.Greatest.{lesser, greater, greatest_to, greatest_in, first_greatest}
 use Rattle.laws.proofs.Cases.{lt_or_ge, true_or_false}
 use Rattle.laws.proofs.Firsts.{first_end, first_here, first_ext}
@@ -188,3 +188,18 @@ pub first_greatest_ext : (n : ℕ) (f g : ℕ → ℕ) → ((k : ℕ) → k < n 
 unfolding first_greatest
 first_greatest_ext n f g h =
     first_ext n _ _ (λ k l. ap₂ eqb (h k l) (greatest_ext 0 n (omega arith) f g (λ i _ p. h i p)))
+
+-- std's lesser and greater of two are these
+pub min_lesser : (a b : ℕ) → min a b ≡ lesser a b
+min_lesser a b =
+    ⊎_elim
+    (λ (l : b < a). let e : min a b ≡ b = omega arith in e ∙ rw (lt-ltb b a l) refl)
+    (λ (g : a ≤ b). let e : min a b ≡ a = omega arith in e ∙ rw (le-ltb b a g) refl)
+    (lt_or_ge b a)
+
+pub max_greater : (a b : ℕ) → max a b ≡ greater a b
+max_greater a b =
+    ⊎_elim
+    (λ (l : a < b). let e : max a b ≡ b = omega arith in e ∙ rw (lt-ltb a b l) refl)
+    (λ (g : b ≤ a). let e : max a b ≡ a = omega arith in e ∙ rw (le-ltb a b g) refl)
+    (lt_or_ge a b)

@@ -13,9 +13,11 @@ use Rattle.laws.specs.Table.{tabulate}
 use Rattle.laws.proofs.Sums.{Shifted}
 use Rattle.laws.proofs.Tables.{get_d_tabulate, tabulate_ext}
 use Rattle.laws.proofs.Sole.{Sole, sole}
-use Rattle.verdict.specs.declared.Verdict.TheVariants as verdict
 use Rattle.verdict.proofs.Verdicts.{Tabled, RefusesCounting, refuses_counting}
-use Rattle.verdict.proofs.Answers.{counted-told}
+use Rattle.verdict.proofs.Answers.{counted_is_told}
+use Rattle.verdict.specs.Answer.{nothing}
+use Rattle.std.specs.Prelude.{Ok}
+use Rattle.verdict.specs.Verdict.{clear}
 use Rattle.window.specs.Shape.{sites_of}
 use Rattle.window.specs.View.{surveyed, seen, one, above}
 use Rattle.window.proofs.Views.{Agree, same_view, Offset, seen_shift}
@@ -25,7 +27,6 @@ use Rattle.plane.specs.Plane.{site_at}
 use Rattle.plane.proofs.Planes.{site_in, box_shifted}
 use Rattle.lines.specs.Lines.{Lines, rows, columns, mark_of, line_sum, mark_at}
 use Rattle.lines.specs.Marks.{lines_verdict, lines_answer, paper_of, lines_paper, lines_buffer}
-use Rattle.lines.specs.declared.Marked.TheVariants.{Done}
 use Rattle.lines.proofs.Pools.{mark_line}
 use Rattle.lines.proofs.Marking.{Accepted, tests, table, accepted, accepted_is, done_clear}
 use Rattle.lines.proofs.Shifts.{mark_shift, none_far, none_surveyed, zero_or_one, blank_line}
@@ -39,7 +40,7 @@ module _ (lines : ℕ → ℕ → Lines) (w h full : ℕ) (mask frame marks : Li
   -- the paper's numbers are those of the answer
   pub paper_is : paper_of (lines_answer lines w h full mask frame (length marks)) ≡ lines_paper lines w h full mask frame (length marks)
   unfolding lines_answer lines_paper
-  paper_is = counted-told paper_of (lines_verdict lines w h full mask frame (length marks)) refl (λ r. refl)
+  paper_is = counted_is_told nothing nothing (lines_verdict lines w h full mask frame (length marks))
 
   -- given: 1, 2, 4, 5, 6 and 9 exactly as document 01 tables them, in that order (`tests` has the table)
   pub given : Tabled (lines_verdict lines w h full mask frame (length marks)) (tests lines w h full mask frame (length marks))
@@ -60,15 +61,15 @@ module _ (lines : ℕ → ℕ → Lines) (w h full : ℕ) (mask frame marks : Li
   blind other a = (rw (a.long, same_view a), rw (a.long, same_view a))
 
   -- of an accepted call
-  module _ (done : lines_answer lines w h full mask frame (length marks) ≡ Done) where
-    clear : lines_verdict lines w h full mask frame (length marks) ≡ verdict.Clear
-    clear = done_clear lines w h full mask frame (length marks) done
+  module _ (done : lines_answer lines w h full mask frame (length marks) ≡ Ok tt) where
+    passed : lines_verdict lines w h full mask frame (length marks) ≡ clear
+    passed = done_clear lines w h full mask frame (length marks) done
 
     fits : Accepted lines w h full mask frame (length marks)
-    fits = accepted lines w h full mask frame (length marks) clear
+    fits = accepted lines w h full mask frame (length marks) passed
 
     written : lines_buffer lines w h full mask frame marks ≡ tabulate (length marks) (mark_at (lines w h) w h (one mask) (seen mask frame))
-    written = sym (accepted_is lines w h full mask frame marks clear).1.1
+    written = sym (accepted_is lines w h full mask frame marks passed).1.1
 
     at : (i : ℕ) → i < length marks → get_or (lines_buffer lines w h full mask frame marks) i 0 ≡ mark_at (lines w h) w h (one mask) (seen mask frame) i
     at i l = ap (λ (b : List ℕ). get_or b i 0) written ∙ get_d_tabulate (length marks) _ i l
@@ -111,7 +112,7 @@ module _ (lines : ℕ → ℕ → Lines) (w h full : ℕ) (mask frame marks : Li
 
   -- adding one constant, up less down, to every surveyed sample, none leaving 0 to full scale, changes no mark
   pub shifted : (other : List ℕ) (up down : ℕ) → Offset up down mask frame other
-      → lines_answer lines w h full mask frame (length marks) ≡ Done → lines_answer lines w h full mask other (length marks) ≡ Done
+      → lines_answer lines w h full mask frame (length marks) ≡ Ok tt → lines_answer lines w h full mask other (length marks) ≡ Ok tt
       → lines_buffer lines w h full mask frame marks ≡ lines_buffer lines w h full mask other marks
   unfolding mark_at
   shifted other up down shift p q =
@@ -126,13 +127,13 @@ module _ (lines : ℕ → ℕ → Lines) (w h full : ℕ) (mask frame marks : Li
       ∙ (accepted_is lines w h full mask other marks (done_clear lines w h full mask other (length marks) q)).1.1
 
 -- the mark of column l of plane (a,b) is the mark of row l of plane (b,a) of the turned window, which is accepted too
-pub turns : (w h full : ℕ) (mask frame marks : List ℕ) → lines_answer columns w h full mask frame (length marks) ≡ Done
-    → (lines_answer rows h w full (turned w h mask) (turned w h frame) (length marks) ≡ Done)
+pub turns : (w h full : ℕ) (mask frame marks : List ℕ) → lines_answer columns w h full mask frame (length marks) ≡ Ok tt
+    → (lines_answer rows h w full (turned w h mask) (turned w h frame) (length marks) ≡ Ok tt)
     × ((plane l : ℕ) → plane < 4 → l < w / 2
     → get_or (lines_buffer columns w h full mask frame marks) (plane * (w / 2) + l) 0
     ≡ get_or (lines_buffer rows h w full (turned w h mask) (turned w h frame) marks) (turned_plane plane * (w / 2) + l) 0)
 turns w h full mask frame marks done =
-    let over = sym (accepted_is rows h w full (turned w h mask) (turned w h frame) marks (turned_accepted w h full mask frame (length marks) (clear columns w h full mask frame marks done))).0 in
+    let over = sym (accepted_is rows h w full (turned w h mask) (turned w h frame) marks (turned_accepted w h full mask frame (length marks) (passed columns w h full mask frame marks done))).0 in
     let fit = fits columns w h full mask frame marks done in (
       over,
       λ plane l few below.

@@ -9,8 +9,8 @@ use lib.ListN.{length, get_or}
 use Rattle.laws.specs.Table.{tabulate}
 use Rattle.laws.proofs.Sums.{box_ext, box_turned}
 use Rattle.laws.proofs.Tables.{length-tabulate, get_d_tabulate}
-use Rattle.verdict.specs.declared.Verdict.TheVariants as verdict
 use Rattle.verdict.proofs.Verdicts.{then_clear, clear_then}
+use Rattle.verdict.specs.Verdict.{clear}
 use Rattle.window.specs.Shape.{sites_of}
 use Rattle.window.specs.View.{seen_at, seen, one}
 use Rattle.window.proofs.Sides.{sides, turned_sides, turned_sites}
@@ -84,8 +84,8 @@ module _ (w h : ℕ) (some : 0 < h) where
 
 -- the turned window is accepted where the window is
 pub turned_accepted : (w h full : ℕ) (mask frame : List ℕ) (marks : ℕ)
-    → lines_verdict columns w h full mask frame marks ≡ verdict.Clear
-    → lines_verdict rows h w full (turned w h mask) (turned w h frame) marks ≡ verdict.Clear
+    → lines_verdict columns w h full mask frame marks ≡ clear
+    → lines_verdict rows h w full (turned w h mask) (turned w h frame) marks ≡ clear
 unfolding lines_verdict
 turned_accepted w h full mask frame marks e =
     let both = then_clear _ _ e in

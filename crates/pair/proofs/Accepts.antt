@@ -9,8 +9,9 @@ use borrow.Author.Tests.{ltb-false, le-ltb}
 use Rattle.laws.proofs.Squares.{excess_most}
 use Rattle.laws.proofs.Cases.{times_le}
 use Rattle.exact.proofs.Noises.{Measured}
-use Rattle.verdict.specs.declared.Verdict.TheVariants as verdict
 use Rattle.verdict.proofs.Verdicts.{Test, Tabled, test, tabled, tabled_then, then_clear, clear_then, unless, clear_unless}
+use Rattle.verdict.specs.Verdict.{clear}
+use Rattle.verdict.specs.declared.Refusal.TheVariants.{Sides, FullScale, Length, TooFew}
 use Rattle.window.specs.Shape.{bad_sides, bad_scale, sites_of}
 use Rattle.window.specs.View.{one, seen}
 use Rattle.window.proofs.Sides.{scale, sites-few}
@@ -28,15 +29,15 @@ module _ (w h full : ℕ) (mask first second : List ℕ) where
   -- the tests in the order of document 01
   abbrev pub tests : List Test
   tests =
-      test 1 0 (bad_sides w h)
-      ∷ test 2 0 (bad_scale full)
-      ∷ test 4 0 (other_than (sites_of w h) (length mask))
-      ∷ test 4 0 (other_than (sites_of w h) (length first))
-      ∷ test 4 0 (other_than (sites_of w h) (length second))
+      test Sides (bad_sides w h)
+      ∷ test FullScale (bad_scale full)
+      ∷ test Length (other_than (sites_of w h) (length mask))
+      ∷ test Length (other_than (sites_of w h) (length first))
+      ∷ test Length (other_than (sites_of w h) (length second))
       ∷ codes_test (sites_of w h) mask
       ∷ samples_test w h full (seen mask first ∷ seen mask second ∷ []) (seen mask first)
       ∷ samples_test w h full (seen mask first ∷ seen mask second ∷ []) (seen mask second)
-      ∷ test 7 0 (ltb (pair_spread w h mask first second).n 2)
+      ∷ test TooFew (ltb (pair_spread w h mask first second).n 2)
       ∷ []
 
   pub table : Tabled (pair_verdict w h full mask first second) tests
@@ -44,7 +45,7 @@ module _ (w h full : ℕ) (mask first second : List ℕ) where
   table = tabled_then (frames_tabled w h full mask first second) (tabled _ [])
 
   -- what the walk asks of the lengths
-  pub lent : frames_verdict w h full mask first second ≡ verdict.Clear
+  pub lent : frames_verdict w h full mask first second ≡ clear
       → (length mask ≤ 16384) × (length first ≡ length mask) × (length second ≡ length mask)
   lent e =
       let r = frames_clear w h full mask first second e in
@@ -83,7 +84,7 @@ pub record Accepted (w h full : ℕ) (mask first second : List ℕ) : Type 0 whe
   pub exact : (pair_spread w h mask first second).p < 2 ^ 53
 
 module _ {w h full : ℕ} {mask first second : List ℕ} where
-  pub accepted : pair_verdict w h full mask first second ≡ verdict.Clear → Accepted w h full mask first second
+  pub accepted : pair_verdict w h full mask first second ≡ clear → Accepted w h full mask first second
   unfolding pair_verdict spread_of
   accepted e =
       let both = then_clear _ _ e in
@@ -99,6 +100,6 @@ module _ {w h full : ℕ} {mask first second : List ℕ} where
   measured a = measured_at (pair_spread w h mask first second) (a.two, a.few, a.exact)
 
   -- two frames that 1 to 6 let pass, with 2 surveyed sites or more, are accepted
-  pub clear_pair : Readable w h full mask first second → 2 ≤ (pair_spread w h mask first second).n → pair_verdict w h full mask first second ≡ verdict.Clear
+  pub clear_pair : Readable w h full mask first second → 2 ≤ (pair_spread w h mask first second).n → pair_verdict w h full mask first second ≡ clear
   unfolding pair_verdict
   clear_pair r two = clear_then (clear_frames w h full mask first second r) (clear_unless _ (le-ltb _ 2 two))

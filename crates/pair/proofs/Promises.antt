@@ -22,9 +22,10 @@ use Rattle.exact.proofs.Roots.{root_is, root_under}
 use Rattle.exact.proofs.Quotients.{quotient-zero, quotient_mono, zero_bits}
 use Rattle.exact.proofs.Division.{exact_float}
 use Rattle.exact.proofs.Noises.{variance-ranged, variance-near, noise_near, noise_plain, noise_zero, root_most}
-use Rattle.verdict.specs.Verdict.{refusal, ◌⨟◌, refuse_if}
+use Rattle.verdict.specs.Verdict.{◌⨟◌, refuse_if}
 use Rattle.verdict.proofs.Verdicts.{Tabled, RefusesCounting, refuses_counting, zero_clear, then_spare}
-use Rattle.verdict.proofs.Answers.{counted-told}
+use Rattle.std.specs.Prelude.{Ok}
+use Rattle.verdict.specs.declared.Refusal.TheVariants.{TooLarge}
 use Rattle.window.specs.Shape.{sites_of}
 use Rattle.window.specs.View.{seen, one, above}
 use Rattle.window.proofs.Views.{Agree, same_view}
@@ -33,10 +34,9 @@ use Rattle.refusals.proofs.Ranges.{two_counting}
 use Rattle.pair.specs.Figures.{difference, numerator, spread_of, no_figures}
 use Rattle.pair.specs.Pair.{pair_spread, pair_verdict, pair_figures, pair_answer, paper_of, pair_paper}
 use Rattle.pair.specs.declared.PairFigures.{PairFigures}
-use Rattle.pair.specs.declared.Pair.TheVariants.{Measured}
 use Rattle.pair.proofs.Spreads.{SameDifference, whole, zero_same, same-zero}
 use Rattle.pair.proofs.Accepts.{Accepted, tests, table, spread_most, spread_greatest, accepted, measured}
-use Rattle.pair.proofs.Answers.{answer_is}
+use Rattle.pair.proofs.Answers.{answer_is, paper_of_answer}
 
 module _ (w h full : ℕ) (mask first second : List ℕ) where
   -- only: no second answer meets the promise
@@ -45,8 +45,7 @@ module _ (w h full : ℕ) (mask first second : List ℕ) where
 
   -- the paper's numbers are those of the answer
   pub paper_is : paper_of (pair_answer w h full mask first second) ≡ pair_paper w h full mask first second
-  unfolding pair_answer pair_paper
-  paper_is = counted-told paper_of (pair_verdict w h full mask first second) refl (λ r. refl)
+  paper_is = paper_of_answer w h full mask first second refl
 
   -- given: 1, 2 and 4 to 7 exactly as document 01 tables them, in that order (`tests` has the table)
   pub given : Tabled (pair_verdict w h full mask first second) (tests w h full mask first second)
@@ -60,19 +59,19 @@ module _ (w h full : ℕ) (mask first second : List ℕ) where
   refused = refuses_counting (pair_verdict w h full mask first second) given refl refl (two_counting w h full (seen mask first) (seen mask second)) (λ r e. rw e)
 
   -- spare: with document 01's 14, where P is 2^53 or more, put last, every verdict is the same (document 02, h)
-  pub spare : pair_verdict w h full mask first second ⨟ refuse_if 14 0 (leb (2 ^ 53) (pair_spread w h mask first second).p)
+  pub spare : pair_verdict w h full mask first second ⨟ refuse_if TooLarge (leb (2 ^ 53) (pair_spread w h mask first second).p)
       ≡ pair_verdict w h full mask first second
-  spare = then_spare (pair_verdict w h full mask first second) (refusal 14 0) (λ e. lt-leb (2 ^ 53) (pair_spread w h mask first second).p (accepted e).exact)
+  spare = then_spare (pair_verdict w h full mask first second) TooLarge (λ e. lt-leb (2 ^ 53) (pair_spread w h mask first second).p (accepted e).exact)
 
   -- answered: where the number is 0 the answer is the paper's figures
   pub answered : (pair_paper w h full mask first second).number ≡ 0
-      → pair_answer w h full mask first second ≡ Measured (pair_paper w h full mask first second).figures
+      → pair_answer w h full mask first second ≡ Ok (pair_paper w h full mask first second).figures
   unfolding pair_answer pair_paper
   answered e = rw (zero_clear (pair_verdict w h full mask first second) given refl e)
 
 -- ---- of an accepted call
 module _ (w h full : ℕ) (mask first second : List ℕ) (figures : PairFigures)
-    (answer : pair_answer w h full mask first second ≡ Measured figures) where
+    (answer : pair_answer w h full mask first second ≡ Ok figures) where
   passed : Accepted w h full mask first second
   passed = (answer_is w h full mask first second figures answer).0
 
@@ -151,7 +150,7 @@ unfolding pair_answer pair_verdict frames_verdict
 blind w h full a b = rw (a.long, b.long, same_view a, same_view b)
 
 -- twice: one buffer given twice has P = 0, and both floats are 0
-pub twice : (w h full : ℕ) (mask frame : List ℕ) (figures : PairFigures) → pair_answer w h full mask frame frame ≡ Measured figures
+pub twice : (w h full : ℕ) (mask frame : List ℕ) (figures : PairFigures) → pair_answer w h full mask frame frame ≡ Ok figures
     → (figures.p ≡ 0) × (figures.variance ≡ of_bits binary64 0) × (figures.noise ≡ of_bits binary64 0)
 twice w h full mask frame figures answer =
     let zero = (flat w h full mask frame frame figures answer).1 (λ i j k l a b. ⊖-self (get_or frame i 0) ∙ sym (⊖-self (get_or frame j 0))) in

@@ -4,6 +4,7 @@ use mathlib.Core.List.{List}
 use mathlib.Core.Path.{◌≡◌, sym, ap, ◌∙◌}
 use native.Mathlib.Omega.{arith}
 use lib.ListN.{length}
+use Rattle.std.specs.Prelude.{Ok}
 use Rattle.laws.specs.Sum.{sum_to}
 use Rattle.exact.specs.Bound.{OnePattern, AtMost, ByValue}
 use Rattle.exact.proofs.Quotients.{quotient-pattern}
@@ -19,7 +20,6 @@ use Rattle.pair.specs.Figures.{spread_of, figures_of}
 use Rattle.pair.specs.Pair.{pair_spread, pair_figures, pair_answer}
 use Rattle.pair.specs.declared.Spread.{Spread}
 use Rattle.pair.specs.declared.PairFigures.{PairFigures}
-use Rattle.pair.specs.declared.Pair.TheVariants.{Measured}
 use Rattle.pair.proofs.Spreads.{spread_swap, spread_shift}
 use Rattle.pair.proofs.Accepts.{Accepted, Measurable, measured, clear_pair}
 use Rattle.pair.proofs.Answers.{accepted_is, answer_is}
@@ -32,7 +32,7 @@ pub record Answered (figures : PairFigures) : Type 0 where
   pub mask : List ℕ
   pub first : List ℕ
   pub second : List ℕ
-  pub answer : pair_answer w h full mask first second ≡ Measured figures
+  pub answer : pair_answer w h full mask first second ≡ Ok figures
 
 -- ---- of any accepted calls
 -- the six numbers are worked out from n and P, which are within bounds
@@ -86,18 +86,18 @@ module _ {a b : PairFigures} (x : Answered a) (y : Answered b) where
 -- ---- of one accepted call, and another with the same window, full scale and mask
 module _ (w h full : ℕ) (mask : List ℕ) where
   -- where 1 to 6 let its frames pass, and their P is the same, so is the answer
-  alike : (first second first' second' : List ℕ) (figures : PairFigures) → pair_answer w h full mask first second ≡ Measured figures
+  alike : (first second first' second' : List ℕ) (figures : PairFigures) → pair_answer w h full mask first second ≡ Ok figures
       → Readable w h full mask first' second' → (pair_spread w h mask first' second').p ≡ (pair_spread w h mask first second).p
-      → pair_answer w h full mask first' second' ≡ Measured figures
+      → pair_answer w h full mask first' second' ≡ Ok figures
   unfolding spread_of
   alike first second first' second' figures answer r e =
       let was = answer_is w h full mask first second figures answer in
       let same : pair_figures w h mask first second ≡ pair_figures w h mask first' second' = ap (λ (p : ℕ). figures_of (record { n = sum_to (sites_of w h) (one mask); p = p })) (sym e) in
-      sym (accepted_is w h full mask first' second' figures (clear_pair r was.0.two) (was.1 ∙ same)).0
+      sym (accepted_is w h full mask first' second' figures (clear_pair r was.0.two) (was.1 ∙ same))
 
   -- swap: the two frames exchanged are accepted too, with the same answer, all six numbers
   pub swap : (first second : List ℕ) (figures : PairFigures)
-      → pair_answer w h full mask first second ≡ Measured figures → pair_answer w h full mask second first ≡ Measured figures
+      → pair_answer w h full mask first second ≡ Ok figures → pair_answer w h full mask second first ≡ Ok figures
   swap first second figures answer =
       let frames = (answer_is w h full mask first second figures answer).0.frames in
       alike first second second first figures answer (record { of_first = frames.of_second; of_second = frames.of_first }) (spread_swap mask first second (sites_of w h))
@@ -106,7 +106,7 @@ module _ (w h full : ℕ) (mask : List ℕ) where
   module _ (up down : ℕ) (frame other : List ℕ) (drifted : Drifted up down full mask frame other) where
     -- shift_first: of the first frame: an accepted pair is accepted still, with the same answer
     pub shift_first : (second : List ℕ) (figures : PairFigures)
-        → pair_answer w h full mask frame second ≡ Measured figures → pair_answer w h full mask other second ≡ Measured figures
+        → pair_answer w h full mask frame second ≡ Ok figures → pair_answer w h full mask other second ≡ Ok figures
     shift_first second figures answer =
         let frames = (answer_is w h full mask frame second figures answer).0.frames in
         let whole = frames.of_first.of.masked in
@@ -121,5 +121,5 @@ module _ (w h full : ℕ) (mask : List ℕ) where
 
     -- shift_second: of the second: by two swaps
     pub shift_second : (first : List ℕ) (figures : PairFigures)
-        → pair_answer w h full mask first frame ≡ Measured figures → pair_answer w h full mask first other ≡ Measured figures
+        → pair_answer w h full mask first frame ≡ Ok figures → pair_answer w h full mask first other ≡ Ok figures
     shift_second first figures answer = swap other first figures (shift_first first figures (swap first frame figures answer))

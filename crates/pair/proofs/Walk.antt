@@ -60,11 +60,7 @@ module _ (mask first second : List ℕ) where
         low-squares = omega (arith, r.low-squares, ed.1);
       }
 
-  -- after all N sites
-  pub walk_ends : {i n a b q : ℕ} (N : ℕ) → Walked mask first second i n a b q → i ≡ N → N ≤ 16384
-      → (record { n = n; first = a; second = b; squares = q } ≡ totals_of N (one mask) (seen mask first) (seen mask second))
-      × ((n ≤ 16384) × (q ≤ 70366596710400))
-  walk_ends N r e few = (
-    rw (← e, r.counted, r.firsts, r.seconds, r.squared),
-    (omega (arith, r.few), omega (arith, r.low-squares)),
-  )
+  -- after all N sites, n', a' and b' being the sums as they are handed out
+  pub walk_ends : {i n a b q : ℕ} (N : ℕ) → Walked mask first second i n a b q → i ≡ N → {n' a' b' : ℕ} → n' ≡ n → a' ≡ a → b' ≡ b
+      → record { n = n'; first = a'; second = b'; squares = q } ≡ totals_of N (one mask) (seen mask first) (seen mask second)
+  walk_ends N r e en ea eb = rw (en, ea, eb, ← e, r.counted, r.firsts, r.seconds, r.squared)

@@ -8,7 +8,7 @@ ghost use Rattle.pair.specs.Walk.{totals_of};
 ghost use Rattle.pair.specs.Figures.{spread_of, figures_of};
 ghost use Rattle.pair.specs.Pair.{pair_answer, paper_of, pair_paper};
 
-use verdict::{Refusal, Verdict};
+use verdict::Refusal;
 
 // n surveyed sites; P and Q, and the variance P/Q in grey levels squared; r, the whole root of 2048 × P, and the noise r / (64 × n) in grey levels.
 #[derive(Clone, Copy)]
@@ -19,12 +19,6 @@ pub struct PairFigures {
     pub r: u64,
     pub variance: f64,
     pub noise: f64,
-}
-
-#[derive(Clone, Copy)]
-pub enum Pair {
-    Measured(PairFigures),
-    Refused(Refusal),
 }
 
 // Sums over the surveyed sites: how many, the samples of each frame, and the squares of the differences.
@@ -43,23 +37,12 @@ struct Spread {
     p: u64,
 }
 
-// |d| of two samples, at 16 bits: with exact::apart, at 64, the walk takes twice the time.
-fn samples_apart(first: u16, second: u16) -> u16
-    ensures { result ≡ apart second first }
-{
-    if first < second {
-        second - first
-    } else {
-        first - second
-    }
-}
-
-// d² of two samples.
+// d² of two samples. |d| is taken at 16 bits: at 64 the walk takes twice the time.
 fn squared(first: u16, second: u16) -> u64
     ensures { (result ≡ apart second first * apart second first) × (result ≤ 4294836225) }
 {
-    let d = samples_apart(first, second) as u32;
-    (d * d) as u64
+    let d = u32::from(first.abs_diff(second));
+    u64::from(d * d)
 }
 
 // The one walk. An unsurveyed site adds 0 to every sum.
@@ -72,19 +55,20 @@ fn sums(mask: &[u8], first: &[u16], second: &[u16]) -> Totals
     let mut of_first: u32 = 0;
     let mut of_second: u32 = 0;
     let mut squares: u64 = 0;
+    // By an index: of three buffers nested zips are no plainer.
     for i in 0..mask.len() {
         let code = mask[i];
         let x = window::seen_at(code, first[i]);
         let y = window::seen_at(code, second[i]);
-        n += window::seen_at(code, 1) as u32;
-        of_first += x as u32;
-        of_second += y as u32;
+        n += window::one_at(code);
+        of_first += u32::from(x);
+        of_second += u32::from(y);
         squares += squared(x, y);
     }
     Totals {
-        n: n as u64,
-        first: of_first as u64,
-        second: of_second as u64,
+        n: u64::from(n),
+        first: u64::from(of_first),
+        second: u64::from(of_second),
         squares,
     }
 }
@@ -95,7 +79,7 @@ fn spread_of(mask: &[u8], first: &[u16], second: &[u16]) -> Spread
     ensures { result ≡ spread_of (length mask.now) (one mask.now) (seen mask.now first.now) (seen mask.now second.now) }
 {
     let t = sums(mask, first, second);
-    let d = exact::apart(t.second, t.first);
+    let d = t.second.abs_diff(t.first);
     Spread {
         n: t.n,
         p: t.n * t.squares - d * d,
@@ -122,6 +106,7 @@ fn figures_of(s: Spread) -> PairFigures
 }
 
 // The figures of two frames, or the refusal: 1 to 6 are judged before the walk, 7 after it.
+#[tactic(auto, using(crate::proofs::Answers::paper_of_answer), unfolding(crate::specs::Pair::pair_verdict, crate::specs::Pair::pair_answer))]
 pub fn pair_figures(
     width: usize,
     height: usize,
@@ -129,17 +114,12 @@ pub fn pair_figures(
     mask: &[u8],
     first: &[u16],
     second: &[u16],
-) -> Pair
+) -> Result<PairFigures, Refusal>
     ensures answer { result ≡ pair_answer width height full_scale mask.now first.now second.now }
     ensures paper { paper_of result ≡ pair_paper width height full_scale mask.now first.now second.now }
 {
-    let frames = refusals::judge_frames(width, height, full_scale, mask, first, second);
-    if let Verdict::Refused(refusal) = frames {
-        return Pair::Refused(refusal);
-    }
+    refusals::judge_frames(width, height, full_scale, mask, first, second)?;
     let s = spread_of(mask, first, second);
-    match verdict::refuse_if(7, 0, s.n < 2) {
-        Verdict::Refused(refusal) => Pair::Refused(refusal),
-        Verdict::Clear => Pair::Measured(figures_of(s)),
-    }
+    verdict::refuse_if(Refusal::TooFew, s.n < 2)?;
+    Ok(figures_of(s))
 }

@@ -1,5 +1,6 @@
 pub mod Totals
 pub mod Figuring
+pub mod Elevens
 pub mod Deviations
 pub mod Measures
 pub mod Judges

@@ -1,6 +1,6 @@
 -- A stack and its negative have the same figures: what stands out above the ten around it in one stands out below them in the other, and as far.
 use Prim.Native.Nat.{ℕ, ◌+◌, ◌-◌, ◌*◌, ◌<◌, ◌≤◌}
-use mathlib.Core.Bool.{Bool, false}
+use mathlib.Core.Bool.{false}
 use mathlib.Core.List.{List}
 use mathlib.Core.Logic.{⊎_elim}
 use mathlib.Core.Path.{◌≡◌, sym, ap, ◌∙◌}
@@ -17,6 +17,7 @@ use Rattle.laws.proofs.Tables.{length-tabulate, get_d_tabulate}
 use Rattle.window.specs.Shape.{sites_of}
 use Rattle.window.specs.View.{seen, above}
 use Rattle.window.proofs.Views.{seen_most}
+use Rattle.window.specs.declared.Lines as window
 use Rattle.pattern.specs.Lines.{Lines, line_total}
 use Rattle.pattern.specs.Figures.{step_of, deviation, figures_of}
 use Rattle.pattern.specs.Pattern.{pattern_verdict, pattern_figures}
@@ -56,13 +57,13 @@ module _ (n unit : ℕ) (C D : ℕ → ℕ) (low : 12 ≤ n) (both : (i : ℕ) �
   figures_negative m = figures-same n m C D low step_negative deviation_negative
 
 -- the two totals of a line add up to its number of sites times `most`
-total_negative : (vertical : Bool) (w h most : ℕ) (view other : ℕ → ℕ) → ((k : ℕ) → k < h * w → view k + other k ≡ most) → (i : ℕ) → i < (lined vertical w h).count
-    → line_total (lined vertical w h) view i + line_total (lined vertical w h) other i ≡ (lined vertical w h).long * most
+total_negative : (way : window.Lines) (w h most : ℕ) (view other : ℕ → ℕ) → ((k : ℕ) → k < h * w → view k + other k ≡ most) → (i : ℕ) → i < (lined way w h).count
+    → line_total (lined way w h) view i + line_total (lined way w h) other i ≡ (lined way w h).long * most
 unfolding line_total
-total_negative vertical w h most view other both i l =
-    let site = (lined vertical w h).site i in
-    sym (sum-add (lined vertical w h).long (λ (t : ℕ). view (site t)) (λ (t : ℕ). other (site t)))
-    ∙ total_flat vertical w h (λ (k : ℕ). view k + other k) most both i l
+total_negative way w h most view other both i l =
+    let site = (lined way w h).site i in
+    sym (sum-add (lined way w h).long (λ (t : ℕ). view (site t)) (λ (t : ℕ). other (site t)))
+    ∙ total_flat way w h (λ (k : ℕ). view k + other k) most both i l
 
 -- where no sum is above `most`, none that is seen is
 none_above : (n most : ℕ) (mask a : List ℕ) → ((i : ℕ) → i < length a → held a i ≤ most) → some_to n (above most (seen mask a)) ≡ false
@@ -83,12 +84,12 @@ module _ (w h full k : ℕ) (mask : List ℕ) {a b : List ℕ} (n : Negative (k 
       rw (n.long, one, other)
 
   -- and where both are accepted, the same figures
-  pub seen_negative : (vertical : Bool) → Clean vertical w h full k mask a → Clean vertical w h full k mask b
-      → pattern_figures (lined vertical w h) full k (seen mask a) ≡ pattern_figures (lined vertical w h) full k (seen mask b)
-  seen_negative vertical c d =
-      sym (figures_seen vertical w h full k mask a c)
-      ∙ figures_negative (lined vertical w h).count ((lined vertical w h).long * (k * full)) (line_total (lined vertical w h) (held a)) (line_total (lined vertical w h) (held b))
-      (rw (count_is vertical w h) c.enough)
-      (total_negative vertical w h (k * full) (held a) (held b) (λ i l. n.sites i (omega (arith, c.fair.long))))
-      ((lined vertical w h).long * k * full)
-      ∙ figures_seen vertical w h full k mask b d
+  pub seen_negative : (way : window.Lines) → Clean way w h full k mask a → Clean way w h full k mask b
+      → pattern_figures (lined way w h) full k (seen mask a) ≡ pattern_figures (lined way w h) full k (seen mask b)
+  seen_negative way c d =
+      sym (figures_seen way w h full k mask a c)
+      ∙ figures_negative (lined way w h).count ((lined way w h).long * (k * full)) (line_total (lined way w h) (held a)) (line_total (lined way w h) (held b))
+      (rw (count_is way w h) c.enough)
+      (total_negative way w h (k * full) (held a) (held b) (λ i l. n.sites i (omega (arith, c.fair.long))))
+      ((lined way w h).long * k * full)
+      ∙ figures_seen way w h full k mask b d

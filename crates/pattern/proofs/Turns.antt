@@ -15,9 +15,9 @@ use Rattle.laws.proofs.Cases.{true_or_false, both_ways}
 use Rattle.laws.proofs.Firsts.{some_none, nowhere_from}
 use Rattle.laws.proofs.Sums.{sum_ext}
 use Rattle.laws.proofs.Tables.{length-tabulate, get_d_tabulate}
-use Rattle.verdict.specs.Verdict.{refusal, ◌⨟◌, refuse_with, refuse_if, refuse_first}
-use Rattle.verdict.specs.declared.Verdict.{Verdict}
-use Rattle.verdict.specs.declared.Verdict.TheVariants.{Clear, Refused}
+use Rattle.verdict.specs.Verdict.{Verdict, clear, ◌⨟◌, refuse_if}
+use Rattle.verdict.specs.declared.Refusal.TheVariants.{Code}
+use Rattle.std.specs.Prelude.{Ok, Err}
 use Rattle.window.specs.Shape.{bad_sides, sites_of}
 use Rattle.window.specs.View.{bad_code, surveyed, seen_at, seen, above}
 use Rattle.window.proofs.Sides.{sides, no_sites, turned_sides, turned_sites}
@@ -74,28 +74,24 @@ some_turned w h f g same =
 -- ---- verdicts that differ at most in the place of a 5
 pub data Twin : Verdict → Verdict → Type 0 where
   alike : (v : Verdict) → Twin v v
-  moved : {p q : ℕ} → Twin (Refused (refusal 5 p)) (Refused (refusal 5 q))
+  moved : {p q : ℕ} → Twin (Err (Code p)) (Err (Code q))
 
-twin_moved : (p q : ℕ) (applies : Bool) → Twin (refuse_if 5 p applies) (refuse_if 5 q applies)
-unfolding refuse_with
+twin_moved : (p q : ℕ) (applies : Bool) → Twin (refuse_if (Code p) applies) (refuse_if (Code q) applies)
 twin_moved p q true = moved
-twin_moved p q false = alike Clear
+twin_moved p q false = alike clear
 
 -- twins after one verdict, and twins before one, are twins
 twin_after : (a : Verdict) {v u : Verdict} → Twin v u → Twin (a ⨟ v) (a ⨟ u)
-unfolding ◌⨟◌
-twin_after Clear t = t
-twin_after (Refused r) t = alike (Refused r)
+twin_after (Ok u) t = t
+twin_after (Err r) t = alike (Err r)
 
 twin_before : {v u : Verdict} → Twin v u → (b : Verdict) → Twin (v ⨟ b) (u ⨟ b)
-unfolding ◌⨟◌
 twin_before (alike v) b = alike (v ⨟ b)
 twin_before moved b = moved
 
 -- 5, and then 1 to 5, of a window and of its transpose
 module _ (w h : ℕ) {mask mask' : List ℕ} (m : Turned w h mask mask') where
   codes_turned : Twin (codes_of (sites_of w h) mask) (codes_of (sites_of w h) mask')
-  unfolding refuse_first
   codes_turned =
       rw (some_turned w h (bad_code mask) (bad_code mask') (λ y x p q. ap (ltb 3) (sym (m.sites y x p q))))
       (twin_moved (first_to (sites_of w h) (bad_code mask)) (first_to (sites_of w h) (bad_code mask')) (some_to (sites_of w h) (bad_code mask)))

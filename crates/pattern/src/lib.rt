@@ -3,9 +3,7 @@
 
 ghost use Rattle.std.specs.Prelude.{◌≡◌, ℕ, ◌+◌, ◌*◌, ◌<◌, ◌≤◌, length};
 ghost use Rattle.laws.specs.First.{some_to};
-ghost use Rattle.laws.specs.Sum.{sum_in};
 ghost use Rattle.laws.specs.Signed.{apart};
-ghost use Rattle.laws.specs.Greatest.{greater};
 ghost use Rattle.laws.specs.Table.{held};
 ghost use Rattle.window.specs.View.{above};
 ghost use Rattle.pattern.specs.Lines.{columns, rows};
@@ -13,7 +11,8 @@ ghost use Rattle.pattern.specs.Figures.{level_of, stands_out, deviation, max_of,
 ghost use Rattle.pattern.specs.Pattern.{pattern_verdict, pattern_figures, pattern_answer, paper_of, pattern_paper};
 ghost use Rattle.pattern.specs.Walk.{lined, line_of, with_row, Possible, Accepted};
 
-use verdict::{Refusal, Verdict};
+use verdict::Refusal;
+use window::Lines;
 
 // Level squared and Max, each by the two numbers of its fraction, unreduced.
 #[derive(Clone, Copy)]
@@ -24,80 +23,60 @@ pub struct Figures {
     pub max_denominator: u64,
 }
 
-#[derive(Clone, Copy)]
-pub enum Pattern {
-    Measured(Figures),
-    Refused(Refusal),
-}
-
-// The most that a sum can be. Of numbers that no stack has the product is not formed.
-fn most(full_scale: u64, frames: u64) -> u64
-    ensures { full_scale ≤ 4095 → frames ≤ 100 → result ≡ frames * full_scale }
-{
-    if 4095 < full_scale {
-        return 0;
-    }
-    if 100 < frames {
-        return 0;
-    }
-    frames * full_scale
-}
-
-fn wide(sum: u32) -> u64
-    ensures { (result ≡ sum) × (result ≤ 4294967295) }
-{
-    sum as u64
-}
-
-// Whether some sum is above the most that it can be.
-fn some_above(most: u64, sums: &[u32]) -> bool
+// Whether some sum is above the most that it can be, at 32 bits, which take less time than 64. Beside `some_code_above` of window, which says why they are two.
+fn some_above(most: u32, sums: &[u32]) -> bool
     ensures { result ≡ some_to (length sums.now) (above most (held sums.now)) }
 {
     let mut found = false;
-    for i in 0..sums.len() {
-        found = found | (most < wide(sums[i]));
+    for sum in sums {
+        found |= most < *sum;
     }
     found
 }
 
-// The line that the site in row y and column x is on: its column where the lines are vertical, else its row.
-fn line_of(vertical: bool, y: usize, x: usize) -> usize
-    ensures { result ≡ line_of vertical y x }
+// The line that the site in row y and column x is on.
+fn line_of(lines: Lines, y: usize, x: usize) -> usize
+    ensures { result ≡ line_of lines y x }
 {
-    if vertical { x } else { y }
+    match lines {
+        Lines::Rows => y,
+        Lines::Columns => x,
+    }
 }
 
 // Refusals 1, 2, 3, 4, 5, 8, 9 and 11.
+// Here and below a call's numbers and buffers go on one by one, as the definitions take them: with a struct of them no clause is plainer.
+#[tactic(auto, unfolding(crate::specs::Pattern::pattern_verdict))]
 fn judge(
-    vertical: bool,
+    lines: Lines,
     width: usize,
     height: usize,
     full_scale: u64,
     frames: u64,
     mask: &[u8],
     sums: &[u32],
-) -> Verdict
-    ensures { result ≡ pattern_verdict (lined vertical) width height full_scale frames mask.now sums.now }
+) -> Result<(), Refusal>
+    ensures { result ≡ pattern_verdict (lined lines) width height full_scale frames mask.now sums.now }
 {
-    let count = verdict::refuse_if(3, 0, window::bad_count(frames));
+    let count = verdict::refuse_if(Refusal::Parameter, window::bad_count(frames));
     let lengths = refusals::length(width, height, sums.len());
-    let lent = refusals::judge_mask(width, height, full_scale, count, mask, lengths);
-    let unsurveyed = verdict::refuse_if(8, 0, window::some_code_above(0, mask));
-    let small = verdict::refuse_if(9, 0, line_of(vertical, height, width) < 12);
-    let impossible = verdict::refuse_if(11, 0, some_above(most(full_scale, frames), sums));
-    let stacked = verdict::then(unsurveyed, verdict::then(small, impossible));
-    verdict::then(lent, stacked)
+    refusals::judge_mask(width, height, full_scale, count, mask, lengths)?;
+    verdict::refuse_if(Refusal::Unsurveyed, window::some_code_above(0, mask))?;
+    verdict::refuse_if(Refusal::TooSmall, line_of(lines, height, width) < 12)?;
+    let most = (frames * full_scale) as u32;
+    verdict::refuse_if(Refusal::Impossible, some_above(most, sums))
 }
 
 // Adds row y to the totals of the lines that its sites are on.
-fn add_row(vertical: bool, width: usize, y: usize, sums: &[u32], totals: &mut [u64; 128])
+fn add_row(lines: Lines, width: usize, y: usize, sums: &[u32], totals: &mut [u64; 128])
     requires { (width ≤ 128) × (y < 128) × (y * width + width ≤ length sums.now) × (length totals.old ≡ 128) × ((i : ℕ) → i < 128 → held totals.old i ≤ y * 549755813760) }
-    ensures { totals.new ≡ with_row vertical width (held sums.now) y totals.old }
+    ensures { totals.new ≡ with_row lines width (held sums.now) y totals.old }
 {
     let start = y * width;
+    // By an index: nothing is plainer where a turn writes at the place that it works out.
     for x in 0..width {
-        let line = line_of(vertical, y, x);
-        totals[line] = totals[line] + wide(sums[start + x]);
+        let line = line_of(lines, y, x);
+        totals[line] += u64::from(sums[start + x]);
     }
 }
 
@@ -105,30 +84,11 @@ fn step(here: u64, next: u64) -> u64
     requires { (here ≤ 52416000) × (next ≤ 52416000) }
     ensures { (result ≡ apart here next * apart here next) × (result ≤ 2747437056000000) }
 {
-    let d = exact::apart(here, next);
+    let d = here.abs_diff(next);
     d * d
 }
 
-// The sum of the squared steps from each total to the next.
-fn level(totals: &[u64; 128], count: usize) -> u64
-    requires { (1 ≤ count) × (count ≤ 128) × Possible count totals.now }
-    ensures { result ≡ level_of count (held totals.now) }
-{
-    let mut sum: u64 = 0;
-    for i in 0..count - 1 {
-        sum += step(totals[i], totals[i + 1]);
-    }
-    sum
-}
-
-fn five(totals: &[u64; 128], at: usize, count: usize) -> u64
-    requires { (at + 5 ≤ count) × (count ≤ 128) × Possible count totals.now }
-    ensures { (result ≡ sum_in at (at + 5) (held totals.now)) × (result ≤ 262080000) }
-{
-    totals[at] + totals[at + 1] + totals[at + 2] + totals[at + 3] + totals[at + 4]
-}
-
-// How far ten times a total is from the sum of the ten around it: a dark line counts as a bright one does.
+// How far ten times a total is from the sum of the ten around it: a dark line counts as a bright one does. Document 01 names the form, an i64 difference.
 fn stands_out(tenfold: u64, around: u64) -> u64
     requires { (tenfold ≤ 524160000) × (around ≤ 524160000) }
     ensures { result ≡ stands_out tenfold around }
@@ -136,89 +96,100 @@ fn stands_out(tenfold: u64, around: u64) -> u64
     exact::size(tenfold as i64 - around as i64)
 }
 
-// How far line i stands out from the five lines before it and the five after it.
-fn deviation_at(totals: &[u64; 128], i: usize, count: usize) -> u64
-    requires { (5 ≤ i) × (i + 6 ≤ count) × (count ≤ 128) × Possible count totals.now }
-    ensures { result ≡ deviation (held totals.now) i }
+// How far the middle one of eleven totals stands out from the five before it and the five after it.
+fn deviation_of(eleven: &[u64]) -> u64
+    requires { (length eleven.now ≡ 11) × Possible eleven.now }
+    ensures { result ≡ deviation (held eleven.now) 5 }
 {
-    let before = five(totals, i - 5, count);
-    let after = five(totals, i + 1, count);
-    stands_out(10 * totals[i], before + after)
+    let before: u64 = eleven[..5].iter().sum();
+    let after: u64 = eleven[6..].iter().sum();
+    stands_out(10 * eleven[5], before + after)
 }
 
-fn greater_of(a: u64, b: u64) -> u64
-    ensures { result ≡ greater a b }
-{
-    if a < b { b } else { a }
+// The totals of the lines of an accepted call: of 12 lines or more, and none above what 100 frames of 128 sites can have.
+#[derive(Clone, Copy)]
+struct LineTotals<'a> {
+    each: &'a [u64],
+    ghost enough: { (12 ≤ length each.now) × (length each.now ≤ 128) },
+    ghost possible: { Possible each.now },
 }
 
-// The greatest deviation, from the first line that has five on either side to the last.
-fn max(totals: &[u64; 128], count: usize) -> u64
-    requires { (12 ≤ count) × (count ≤ 128) × Possible count totals.now }
-    ensures { result ≡ max_of count (held totals.now) }
-{
-    let mut greatest = deviation_at(totals, 5, count);
-    for i in 6..count - 5 {
-        let here = deviation_at(totals, i, count);
-        greatest = greater_of(greatest, here);
+impl<'a> LineTotals<'a> {
+    // The sum of the squared steps from each total to the next.
+    fn level(self) -> u64
+        ensures { result ≡ level_of (length self.entry.each.now) (held self.entry.each.now) }
+    {
+        let mut sum: u64 = 0;
+        for pair in self.each.windows(2) {
+            sum += step(pair[0], pair[1]);
+        }
+        sum
     }
-    greatest
-}
 
-fn figures_of(totals: &[u64; 128], count: usize, unit: u64) -> Figures
-    requires { (12 ≤ count) × (count ≤ 128) × (unit ≤ 52416000) × Possible count totals.now }
-    ensures { result ≡ figures_of count unit (held totals.now) }
-{
-    Figures {
-        level_numerator: level(totals, count),
-        level_denominator: (count as u64 - 1) * (unit * unit),
-        max_numerator: max(totals, count),
-        max_denominator: 10 * unit,
+    // The greatest deviation, of all lines that have five on either side.
+    fn max(self) -> u64
+        ensures { result ≡ max_of (length self.entry.each.now) (held self.entry.each.now) }
+    {
+        let mut greatest: u64 = 0;
+        for eleven in self.each.windows(11) {
+            greatest = greatest.max(deviation_of(eleven));
+        }
+        greatest
+    }
+
+    #[tactic(auto, unfolding(crate::specs::Figures::figures_of))]
+    fn figures(self, unit: u64) -> Figures
+        requires { unit ≤ 52416000 }
+        ensures { result ≡ figures_of (length self.entry.each.now) unit (held self.entry.each.now) }
+    {
+        Figures {
+            level_numerator: self.level(),
+            level_denominator: (self.each.len() as u64 - 1) * (unit * unit),
+            max_numerator: self.max(),
+            max_denominator: 10 * unit,
+        }
     }
 }
 
 // The figures of the totals of all lines, which are filled while the sums are walked.
 fn measure(
-    vertical: bool,
+    lines: Lines,
     width: usize,
     height: usize,
     full_scale: u64,
     frames: u64,
     sums: &[u32],
 ) -> Figures
-    requires { (12 ≤ line_of vertical height width) × Accepted width height full_scale frames sums.now }
-    ensures { result ≡ pattern_figures (lined vertical width height) full_scale frames (held sums.now) }
+    requires { (12 ≤ line_of lines height width) × Accepted width height full_scale frames sums.now }
+    ensures { result ≡ pattern_figures (lined lines width height) full_scale frames (held sums.now) }
 {
+    // Document 01 names the array: totals of all 128 columns, filled while the sums are walked.
     let mut totals = [0u64; 128];
     for y in 0..height {
-        add_row(vertical, width, y, sums, &mut totals);
+        add_row(lines, width, y, sums, &mut totals);
     }
-    let long = line_of(vertical, width, height) as u64;
-    figures_of(
-        &totals,
-        line_of(vertical, height, width),
-        long * frames * full_scale,
-    )
+    let lined = LineTotals {
+        each: &totals[..line_of(lines, height, width)],
+    };
+    let long = line_of(lines, width, height) as u64;
+    lined.figures(long * frames * full_scale)
 }
 
+#[tactic(auto, using(crate::proofs::Judges::paper_of_answer), unfolding(crate::specs::Pattern::pattern_answer))]
 fn pattern_by(
-    vertical: bool,
+    lines: Lines,
     width: usize,
     height: usize,
     full_scale: u64,
     frames: u64,
     mask: &[u8],
     sums: &[u32],
-) -> Pattern
-    ensures answer { result ≡ pattern_answer (lined vertical) width height full_scale frames mask.now sums.now }
-    ensures paper { paper_of result ≡ pattern_paper (lined vertical) width height full_scale frames mask.now sums.now }
+) -> Result<Figures, Refusal>
+    ensures answer { result ≡ pattern_answer (lined lines) width height full_scale frames mask.now sums.now }
+    ensures paper { paper_of result ≡ pattern_paper (lined lines) width height full_scale frames mask.now sums.now }
 {
-    match judge(vertical, width, height, full_scale, frames, mask, sums) {
-        Verdict::Refused(refusal) => Pattern::Refused(refusal),
-        Verdict::Clear => Pattern::Measured(measure(
-            vertical, width, height, full_scale, frames, sums,
-        )),
-    }
+    judge(lines, width, height, full_scale, frames, mask, sums)?;
+    Ok(measure(lines, width, height, full_scale, frames, sums))
 }
 
 pub fn pattern_vertical(
@@ -228,11 +199,19 @@ pub fn pattern_vertical(
     frames: u64,
     mask: &[u8],
     sums: &[u32],
-) -> Pattern
+) -> Result<Figures, Refusal>
     ensures answer { result ≡ pattern_answer columns width height full_scale frames mask.now sums.now }
     ensures paper { paper_of result ≡ pattern_paper columns width height full_scale frames mask.now sums.now }
 {
-    pattern_by(true, width, height, full_scale, frames, mask, sums)
+    pattern_by(
+        Lines::Columns,
+        width,
+        height,
+        full_scale,
+        frames,
+        mask,
+        sums,
+    )
 }
 
 pub fn pattern_horizontal(
@@ -242,9 +221,9 @@ pub fn pattern_horizontal(
     frames: u64,
     mask: &[u8],
     sums: &[u32],
-) -> Pattern
+) -> Result<Figures, Refusal>
     ensures answer { result ≡ pattern_answer rows width height full_scale frames mask.now sums.now }
     ensures paper { paper_of result ≡ pattern_paper rows width height full_scale frames mask.now sums.now }
 {
-    pattern_by(false, width, height, full_scale, frames, mask, sums)
+    pattern_by(Lines::Rows, width, height, full_scale, frames, mask, sums)
 }

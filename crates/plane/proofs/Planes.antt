@@ -18,13 +18,13 @@ use Rattle.window.proofs.Sides.{Sides}
 use Rattle.window.proofs.Views.{seen_is, seen_le, seen_counted, seen_shift}
 use Rattle.window.proofs.Walks.{Whole, walked_whole, walked_some}
 use Rattle.plane.specs.Plane.{row_parity, column_parity, plane_of, plane_row, plane_column, site_at, box_sum, sums, box_sums}
-use Rattle.plane.specs.Walk.{Inner}
+use Rattle.plane.specs.Walk.{Inner, Runs}
 use Rattle.plane.specs.declared.PlaneBox.{PlaneBox}
 use Rattle.plane.specs.declared.Sums.{Sums}
 
 module _ (w h plane u : ℕ) (low : u < h / 2) where
   -- a row of a plane lies inside the window
-  pub row_in : (right : ℕ) → right ≤ w / 2 → (2 * u + row_parity plane) * w + column_parity plane + 2 * right ≤ h * w + 1
+  pub row_in : (right : ℕ) → right ≤ w / 2 → (2 * u + row_parity plane) * w + 2 * right ≤ h * w
   row_in right in_right =
       let below : suc (2 * u + row_parity plane) ≤ h = omega arith in
       omega (arith, mul-le-mul_right w below, suc-mul (2 * u + row_parity plane) w)
@@ -42,13 +42,10 @@ module _ (w plane : ℕ) where
   pub stepped_down : (u v : ℕ) → row_parity plane * w + column_parity plane + 2 * v + 2 * w * u ≡ site_at w plane u v
   stepped_down u v = omega (arith, stepped u v)
 
-  -- from a first one in the first two rows
-  pub start_low : w ≤ 128 → row_parity plane * w + column_parity plane ≤ 129
-  start_low narrow = let low : row_parity plane ≤ 1 = omega arith in omega (arith, mul-le-mul_right w low)
-
-  -- so the sites of a row and those right of them are those of two planes
-  pub paired : (row : ℕ) → row_parity plane ≡ row % 2 → (u v : ℕ) → row % 2 * w + 2 * w * u + 2 * v + column_parity plane ≡ site_at w plane u v
-  paired row e u v = omega (arith, stepped u v, ap (λ (k : ℕ). k * w) e)
+  -- the sites right of those of even columns are the next plane's
+  pub stepped_right : column_parity plane ≡ 0 → (u v : ℕ) → site_at w plane u v + 1 ≡ site_at w (plane + 1) u v
+  stepped_right even u v = let row : row_parity (plane + 1) ≡ row_parity plane = omega arith in
+      omega (arith, ap (λ (k : ℕ). (2 * u + k) * w) row)
 
   -- and a box can be summed wherever its sites are found
   pub by_place : (place : ℕ → ℕ → ℕ) → ((u v : ℕ) → place u v ≡ site_at w plane u v) → (top bottom left right : ℕ) (view : ℕ → ℕ)
@@ -209,22 +206,11 @@ module _ (w h plane : ℕ) (within : PlaneBox) (mask frame : List ℕ) where
 
   -- so sums over the part of a box that lies inside the plane are all that is seen of it
   pub sums-told : (r : Sums) {part : PlaneBox} → Inner w h within part
-      → r.count ≡ sum_box part.top part.bottom part.left part.right (λ (u v : ℕ). one mask (site_at w plane u v))
-      → r.total ≡ sum_box part.top part.bottom part.left part.right (λ (u v : ℕ). seen mask frame (site_at w plane u v))
+      → Runs mask frame (site_at w plane) part.left part.right part.top part.bottom r
       → {n : ℕ} → n ≡ min (walked w h (length mask)) (walked w h (length frame)) → (n ≡ 0 → ⊥)
       → r ≡ box_sums w h plane within mask frame
-  sums-told r is c s n some =
-      ap₂ sums (c ∙ box_inner w h plane within (one mask) is) (s ∙ box_inner w h plane within (seen mask frame) is) ∙ sym (sums-whole (λ e. some (n ∙ e)))
-
-  -- wherever its sites are found
-  pub sums_placed : (r : Sums) {part : PlaneBox} {place : ℕ → ℕ → ℕ} → Inner w h within part
-      → r.count ≡ sum_box part.top part.bottom part.left part.right (λ (u v : ℕ). one mask (place u v))
-      → r.total ≡ sum_box part.top part.bottom part.left part.right (λ (u v : ℕ). seen mask frame (place u v))
-      → ((u v : ℕ) → place u v ≡ site_at w plane u v)
-      → {n : ℕ} → n ≡ min (walked w h (length mask)) (walked w h (length frame)) → (n ≡ 0 → ⊥)
-      → r ≡ box_sums w h plane within mask frame
-  sums_placed r {part} {place} is c s at n some =
-      sums-told r is (c ∙ by_place w plane place at _ _ _ _ (one mask)) (s ∙ by_place w plane place at _ _ _ _ (seen mask frame)) n some
+  sums-told r is s n some =
+      ap₂ sums (s.counted ∙ box_inner w h plane within (one mask) is) (s.added ∙ box_inner w h plane within (seen mask frame) is) ∙ sym (sums-whole (λ e. some (n ∙ e)))
 
   -- no sample has more than 16 bits, so neither has what is seen of a site
   pub sums-low : ((i : ℕ) → get_or frame i 0 ≤ 65535) → (box_sums w h plane within mask frame).total ≤ 65535 * (box_sums w h plane within mask frame).count

@@ -8,29 +8,28 @@ use lib.ListN.{length, get_or}
 use borrow.Author.Tests.{eq-eqb, eqb-true, le-ltb, ltb-false, not-false}
 use Rattle.laws.specs.First.{some_to}
 use Rattle.laws.proofs.Firsts.{first_nowhere, nowhere_first}
-use Rattle.verdict.specs.Verdict.{◌⨟◌, refuse_if, refuse_first}
-use Rattle.verdict.specs.declared.Verdict.{Verdict}
-use Rattle.verdict.specs.declared.Verdict.TheVariants.{Clear}
+use Rattle.verdict.specs.Verdict.{Verdict, clear, ◌⨟◌, refuse_if}
 use Rattle.verdict.proofs.Verdicts.{Tabled, test, tabled, then_same, then_clear, clear_then, unless, clear_unless}
+use Rattle.verdict.specs.declared.Refusal.TheVariants.{Sides, FullScale, Length}
 use Rattle.window.specs.Shape.{bad_sides, bad_scale, sites_of}
 use Rattle.window.specs.Walk.{walked}
-use Rattle.window.specs.View.{bad_code}
 use Rattle.window.proofs.Walks.{walked_whole}
+use Rattle.window.specs.View.{bad_code}
 use Rattle.refusals.specs.Judge.{shape_of, other_than, codes_of}
 
 -- 1 and 2
 module _ (w h full : ℕ) where
-  pub shape_clear : shape_of w h full ≡ Clear → (bad_sides w h ≡ false) × (bad_scale full ≡ false)
+  pub shape_clear : shape_of w h full ≡ clear → (bad_sides w h ≡ false) × (bad_scale full ≡ false)
   unfolding shape_of
   shape_clear e =
-      let both = then_clear (refuse_if 1 0 (bad_sides w h)) (refuse_if 2 0 (bad_scale full)) e in
+      let both = then_clear (refuse_if Sides (bad_sides w h)) (refuse_if FullScale (bad_scale full)) e in
       (unless _ (bad_sides w h) both.0, unless _ (bad_scale full) both.1)
 
-  pub clear_shape : bad_sides w h ≡ false → bad_scale full ≡ false → shape_of w h full ≡ Clear
+  pub clear_shape : bad_sides w h ≡ false → bad_scale full ≡ false → shape_of w h full ≡ clear
   unfolding shape_of
   clear_shape legal scaled = clear_then (clear_unless _ legal) (clear_unless _ scaled)
 
-  pub shape_tabled : Tabled (shape_of w h full) (test 1 0 (bad_sides w h) ∷ test 2 0 (bad_scale full) ∷ [])
+  pub shape_tabled : Tabled (shape_of w h full) (test Sides (bad_sides w h) ∷ test FullScale (bad_scale full) ∷ [])
   unfolding shape_of
   shape_tabled = tabled _ _
 
@@ -41,28 +40,26 @@ same_length needed long e = eqb-true long needed (not-false (eqb long needed) e)
 pub right-length : (needed long : ℕ) → long ≡ needed → other_than needed long ≡ false
 right-length needed long e = ap not (eq-eqb long needed e)
 
-pub length_clear : (needed long : ℕ) → refuse_if 4 0 (other_than needed long) ≡ Clear → long ≡ needed
+pub length_clear : (needed long : ℕ) → refuse_if Length (other_than needed long) ≡ clear → long ≡ needed
 length_clear needed long e = same_length needed long (unless _ (other_than needed long) e)
 
-pub clear_length : (needed long : ℕ) → long ≡ needed → refuse_if 4 0 (other_than needed long) ≡ Clear
+pub clear_length : (needed long : ℕ) → long ≡ needed → refuse_if Length (other_than needed long) ≡ clear
 clear_length needed long e = clear_unless _ (right-length needed long e)
 
 -- 5 does not apply: every code is at most 3
-pub codes_clear : (n : ℕ) (mask : List ℕ) → codes_of n mask ≡ Clear → (i : ℕ) → i < n → get_or mask i 0 ≤ 3
-unfolding refuse_first
+pub codes_clear : (n : ℕ) (mask : List ℕ) → codes_of n mask ≡ clear → (i : ℕ) → i < n → get_or mask i 0 ≤ 3
 codes_clear n mask e i l =
     ltb-false 3 (get_or mask i 0) (first_nowhere (bad_code mask) n (unless _ (some_to n (bad_code mask)) e) i l)
 
-pub clear_codes : (n : ℕ) (mask : List ℕ) → ((i : ℕ) → i < n → get_or mask i 0 ≤ 3) → codes_of n mask ≡ Clear
-unfolding refuse_first
+pub clear_codes : (n : ℕ) (mask : List ℕ) → ((i : ℕ) → i < n → get_or mask i 0 ≤ 3) → codes_of n mask ≡ clear
 clear_codes n mask low = clear_unless _ (nowhere_first (bad_code mask) n (λ i l. le-ltb 3 (get_or mask i 0) (low i l)))
 
 -- what follows 4 is judged only of a buffer of the length needed
 pub measured : (needed long : ℕ) {b d : Verdict} → (long ≡ needed → b ≡ d)
-    → refuse_if 4 0 (other_than needed long) ⨟ b ≡ refuse_if 4 0 (other_than needed long) ⨟ d
-measured needed long f = then_same (refuse_if 4 0 (other_than needed long)) (λ e. f (length_clear needed long e))
+    → refuse_if Length (other_than needed long) ⨟ b ≡ refuse_if Length (other_than needed long) ⨟ d
+measured needed long f = then_same (refuse_if Length (other_than needed long)) (λ e. f (length_clear needed long e))
 
--- so what `codes` walks there is the whole window
+-- so 5 of what a buffer of that length lets be walked is of the whole window
 pub codes_whole : (w h : ℕ) (mask : List ℕ) → length mask ≡ sites_of w h
     → codes_of (walked w h (length mask)) mask ≡ codes_of (sites_of w h) mask
 codes_whole w h mask e = rw (walked_whole w h (length mask) e)

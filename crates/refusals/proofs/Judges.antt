@@ -1,15 +1,16 @@
 -- The refusals that calls share: what passes 1 to 5, or 1 to 6, what is judged after them, and the table that they are.
-use Prim.Native.Nat.{ℕ, ◌<◌, ◌≤◌}
+use Prim.Native.Nat.{ℕ, ◌*◌, ◌<◌, ◌≤◌}
 use mathlib.Core.Bool.{false}
 use mathlib.Core.List.{List, [], ◌∷◌, ◌++◌}
-use mathlib.Core.Path.{◌≡◌, ap, ap₂, ◌∙◌}
+use mathlib.Core.Path.{◌≡◌, refl, ap, ap₂, ◌∙◌}
+use native.Mathlib.Omega.{arith}
 use lib.ListN.{length, get_or}
 use Rattle.laws.specs.First.{count_to}
-use Rattle.verdict.specs.Verdict.{◌⨟◌, refuse_first}
-use Rattle.verdict.specs.declared.Verdict.{Verdict}
-use Rattle.verdict.specs.declared.Verdict.TheVariants.{Clear}
+use Rattle.verdict.specs.Verdict.{Verdict, clear, ◌⨟◌}
 use Rattle.verdict.proofs.Verdicts.{Test, Tabled, test, test_first, tabled, tabled_then, then_same, then_clear, then_end, clear_then}
+use Rattle.verdict.specs.declared.Refusal.TheVariants.{Sides, FullScale, Length, Code}
 use Rattle.window.specs.Shape.{bad_sides, bad_scale, sites_of}
+use Rattle.window.proofs.Sides.{sides, scale}
 use Rattle.window.specs.Walk.{walked}
 use Rattle.window.specs.View.{bad_code, above, seen}
 use Rattle.refusals.specs.Judge.{shape_of, other_than, length_of, codes_of, over_in, samples_of, range_of, mask_verdict, frame_verdict}
@@ -19,7 +20,7 @@ use Rattle.refusals.proofs.Ranges.{none, more, range_head, samples_clear, clear_
 
 -- 5 as a test of a table, at the first of n sites
 abbrev pub codes_test : ℕ → List ℕ → Test
-codes_test n mask = test_first 5 0 n (bad_code mask)
+codes_test n mask = test_first Code n (bad_code mask)
 
 -- a mask in a window that 1 to 5 do not refuse
 pub record Masked (w h full : ℕ) (mask : List ℕ) : Type 0 where
@@ -37,7 +38,7 @@ pub record Framed (w h full : ℕ) (mask frame : List ℕ) : Type 0 where
 module _ (w h full : ℕ) (mask : List ℕ) where
   module _ {parameters lengths : Verdict} where
     -- what 1 to 5 let pass, with the call's own tests among them
-    pub mask_clear : mask_verdict w h full parameters mask lengths ≡ Clear → (parameters ≡ Clear) × (lengths ≡ Clear) × Masked w h full mask
+    pub mask_clear : mask_verdict w h full parameters mask lengths ≡ clear → (parameters ≡ clear) × (lengths ≡ clear) × Masked w h full mask
     unfolding mask_verdict
     mask_clear e =
         let shape = then_clear _ _ e in
@@ -48,8 +49,8 @@ module _ (w h full : ℕ) (mask : List ℕ) where
         (handed.0, lent.0, record { legal = legal.0; scaled = legal.1; masked = length_clear (sites_of w h) (length mask) masked.0; codes = codes_clear (sites_of w h) mask lent.1 })
 
     -- behind a good mask, with buffers of the right length, a call's own 3 is all that 1 to 5 can be
-    pub parameters_left : Masked w h full mask → lengths ≡ Clear → mask_verdict w h full parameters mask lengths ≡ parameters
-    unfolding mask_verdict ◌⨟◌
+    pub parameters_left : Masked w h full mask → lengths ≡ clear → mask_verdict w h full parameters mask lengths ≡ parameters
+    unfolding mask_verdict
     parameters_left m l =
         rw (
           clear_shape w h full m.legal m.scaled,
@@ -59,7 +60,7 @@ module _ (w h full : ℕ) (mask : List ℕ) where
         )
         (then_end parameters)
 
-    pub clear_mask : Masked w h full mask → parameters ≡ Clear → lengths ≡ Clear → mask_verdict w h full parameters mask lengths ≡ Clear
+    pub clear_mask : Masked w h full mask → parameters ≡ clear → lengths ≡ clear → mask_verdict w h full parameters mask lengths ≡ clear
     clear_mask m p l = parameters_left m l ∙ p
 
   -- 5 is asked of the whole window: 4 comes first
@@ -70,6 +71,13 @@ module _ (w h full : ℕ) (mask : List ℕ) where
   mask_judged parameters lengths =
       then_same (shape_of w h full) (λ _. then_same parameters (λ _.
       measured (sites_of w h) (length mask) (λ e. then_same lengths (λ _. codes_whole w h mask e))))
+
+  -- what 5 asks of h rows of w is asked of the window
+  pub codes_asked : shape_of w h full ≡ clear → codes_of (h * w) mask ≡ codes_of (sites_of w h) mask
+  codes_asked e = rw (sides w h (shape_clear w h full e).0).sites refl
+
+  pub mask_whole : shape_of w h full ≡ clear → length_of w h (length mask) ≡ clear → length mask ≡ h * w
+  mask_whole e f = length_clear (sites_of w h) (length mask) f ∙ (sides w h (shape_clear w h full e).0).sites
 
   -- what `judge_mask` answers of verdicts that are known
   pub mask_of_lem : {r p l p' l' : Verdict} → r ≡ mask_verdict w h full p mask l → p ≡ p' → l ≡ l' → r ≡ mask_verdict w h full p' mask l'
@@ -85,19 +93,19 @@ module _ (w h full : ℕ) (mask : List ℕ) where
   -- the table of 1 to 5, the call's own tests in their places
   abbrev pub mask_tests : List Test → List Test → List Test
   mask_tests parameters lengths =
-      test 1 0 (bad_sides w h)
-      ∷ test 2 0 (bad_scale full)
-      ∷ (parameters ++ (test 4 0 (other_than (sites_of w h) (length mask)) ∷ (lengths ++ (codes_test (sites_of w h) mask ∷ []))))
+      test Sides (bad_sides w h)
+      ∷ test FullScale (bad_scale full)
+      ∷ (parameters ++ (test Length (other_than (sites_of w h) (length mask)) ∷ (lengths ++ (codes_test (sites_of w h) mask ∷ []))))
 
   pub mask_tabled : {parameters lengths : Verdict} {ps ls : List Test} → Tabled parameters ps → Tabled lengths ls
       → Tabled (mask_verdict w h full parameters mask lengths) (mask_tests ps ls)
-  unfolding mask_verdict refuse_first
+  unfolding mask_verdict
   mask_tabled p l = tabled_then (shape_tabled w h full) (tabled_then p (tabled_then (tabled _ []) (tabled_then l (tabled _ []))))
 
 module _ (w h full : ℕ) (mask frame : List ℕ) where
   module _ {parameters lengths : Verdict} where
     -- and of a frame, 1 to 6
-    pub frame_clear : frame_verdict w h full parameters mask frame lengths ≡ Clear → (parameters ≡ Clear) × (lengths ≡ Clear) × Framed w h full mask frame
+    pub frame_clear : frame_verdict w h full parameters mask frame lengths ≡ clear → (parameters ≡ clear) × (lengths ≡ clear) × Framed w h full mask frame
     unfolding frame_verdict
     frame_clear e =
         let all = then_clear _ _ e in
@@ -106,12 +114,20 @@ module _ (w h full : ℕ) (mask frame : List ℕ) where
         let range = samples_clear (over_in (sites_of w h) full (seen mask frame ∷ [])) (sites_of w h) full (seen mask frame ∷ []) all.1 in
         (masked.0, lent.1, record { of = masked.2; framed = length_clear (sites_of w h) (length frame) lent.0; range = range_head range })
 
-    pub clear_frame : Framed w h full mask frame → parameters ≡ Clear → lengths ≡ Clear → frame_verdict w h full parameters mask frame lengths ≡ Clear
+    pub clear_frame : Framed w h full mask frame → parameters ≡ clear → lengths ≡ clear → frame_verdict w h full parameters mask frame lengths ≡ clear
     unfolding frame_verdict
     clear_frame f p l =
         clear_then (clear_mask w h full mask f.of p (clear_then (clear_length (sites_of w h) (length frame) f.framed) l))
         (clear_samples (over_in (sites_of w h) full (seen mask frame ∷ [])) (sites_of w h) full (more f.range none))
 
+  -- what 1 to 5 let pass can be viewed, at a full scale that 16 bits hold
+  pub mask_passed : (parameters lengths : Verdict) → mask_verdict w h full parameters mask (length_of w h (length frame) ⨟ lengths) ≡ clear
+      → (full ≤ 4095) × (bad_sides w h ≡ false) × (length mask ≡ sites_of w h) × (length frame ≡ sites_of w h)
+  mask_passed parameters lengths e =
+      let masked = mask_clear w h full mask e in
+      (omega (arith, (scale full masked.2.scaled).high), masked.2.legal, masked.2.masked, length_clear (sites_of w h) (length frame) (then_clear _ _ masked.1).0)
+
+  -- 6 is asked of the whole window: 2 and 4 come first
   pub frame_judged : (parameters lengths : Verdict) (n : ℕ) → n ≡ ranged w h full (length mask) (length frame)
       → mask_verdict w h full parameters mask (length_of w h (length frame) ⨟ lengths)
       ⨟ samples_of (count_to n (above full (seen mask frame))) n full (seen mask frame)
@@ -122,6 +138,14 @@ module _ (w h full : ℕ) (mask frame : List ℕ) where
       let masked = mask_clear w h full mask e in
       let long = length_clear (sites_of w h) (length frame) (then_clear _ _ masked.1).0 in
       rw (p, ranged-whole w h full (length mask) (length frame) masked.2.scaled masked.2.masked long) (range_one w h full (seen mask frame)))
+
+  -- 6 of a mask and a frame that 1 to 5 let pass, with the count of what is over
+  pub frame_asked : (parameters lengths : Verdict) → mask_verdict w h full parameters mask (length_of w h (length frame) ⨟ lengths) ≡ clear
+      → samples_of (count_to (length mask) (above full (seen mask frame))) (length mask) full (seen mask frame) ≡ frame_verdict w h full parameters mask frame lengths
+  unfolding frame_verdict
+  frame_asked parameters lengths e =
+      let masked = mask_clear w h full mask e in
+      rw (e, masked.2.masked) (range_one w h full (seen mask frame))
 
   pub frame_of : {r p l p' l' : Verdict} → r ≡ frame_verdict w h full p mask frame l → p ≡ p' → l ≡ l' → r ≡ frame_verdict w h full p' mask frame l'
   frame_of e f g = e ∙ ap₂ (λ (p l : Verdict). frame_verdict w h full p mask frame l) f g
@@ -134,7 +158,7 @@ module _ (w h full : ℕ) (mask frame : List ℕ) where
 
   abbrev pub frame_tests : List Test → List Test → List Test
   frame_tests parameters lengths =
-      mask_tests w h full mask parameters (test 4 0 (other_than (sites_of w h) (length frame)) ∷ lengths)
+      mask_tests w h full mask parameters (test Length (other_than (sites_of w h) (length frame)) ∷ lengths)
       ++ range_tests (over_in (sites_of w h) full (seen mask frame ∷ [])) (sites_of w h) full (seen mask frame ∷ [])
 
   pub frame_tabled : {parameters lengths : Verdict} {ps ls : List Test} → Tabled parameters ps → Tabled lengths ls

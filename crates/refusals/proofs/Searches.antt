@@ -7,9 +7,9 @@ use native.Mathlib.Omega.{arith}
 use lib.Arith.{digits_lt}
 use lib.Dec.{ltb}
 use Rattle.laws.specs.First.{first_to, some_to}
+use Rattle.verdict.specs.Verdict.{clear, refuse_if, refuse_first}
+use Rattle.verdict.specs.declared.Refusal.{Refusal}
 use Rattle.laws.proofs.Firsts.{first_none, first_past, first_here}
-use Rattle.verdict.specs.Verdict.{refusal_over, refuse_with, refuse_first}
-use Rattle.verdict.specs.declared.Verdict.TheVariants.{Clear}
 
 -- row y begins, and nothing was found before it
 pub record AtRow (test : ℕ → Bool) (w h y at : ℕ) : Type 0 where
@@ -48,18 +48,11 @@ module _ {test : ℕ → Bool} {w y x at : ℕ} (s : AtSite test w y x at) where
   pub search_stops : {h : ℕ} → y < h → x < w → test at ≡ true → at ≡ first_to (h * w) test
   search_stops {h} hy hx t = sym (first_here test (h * w) at (site_in hy hx) s.none t)
 
-module _ (k over : ℕ) (test : ℕ → Bool) where
-  -- nothing is refused of no site
-  pub none_walked : (n : ℕ) → n ≡ 0 → Clear ≡ refuse_first k over n test
-  unfolding refuse_first refuse_with
-  none_walked n e = rw (e, first_none)
-
-  -- nor where the test holds at none
-  pub none_found : (n m : ℕ) → m ≡ n → some_to n test ≡ false → Clear ≡ refuse_first k over m test
-  unfolding refuse_first refuse_with
-  none_found n m p e = rw (p, e)
+module _ (refusal : ℕ → Refusal) (test : ℕ → Bool) where
+  -- nothing is refused where the test holds at no site
+  pub none_found : (n : ℕ) → some_to n test ≡ false → clear ≡ refuse_first refusal n test
+  none_found n e = rw e
 
   -- what a search over the n sites found is given, however n was come by
-  pub found : (n m i at : ℕ) → i ≡ n → m ≡ n → at ≡ first_to n test → refuse_with (refusal_over k at over) (ltb at i) ≡ refuse_first k over m test
-  unfolding refuse_first
-  found n m i at p q f = rw (f, p, q)
+  pub found : (n i at : ℕ) → i ≡ n → at ≡ first_to n test → refuse_if (refusal at) (ltb at i) ≡ refuse_first refusal n test
+  found n i at p f = rw (f, p)

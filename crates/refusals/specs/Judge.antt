@@ -1,16 +1,14 @@
 -- Document 01, "Refusal numbers", as document 02 d amends 6: the tests that calls share.
 use Rattle.std.specs.Prelude.{ℕ, ◌+◌, Bool, not, List, [], ◌∷◌, eqb, length}
 use Rattle.laws.specs.First.{count_to}
-use Rattle.verdict.specs.Verdict.{◌⨟◌, refuse_with, refuse_if, refuse_first}
-use Rattle.verdict.specs.declared.Verdict.{Verdict}
-use Rattle.verdict.specs.declared.Verdict.TheVariants.{Clear}
+use Rattle.verdict.specs.Verdict.{Verdict, clear, ◌⨟◌, refuse_if, refuse_first}
+use Rattle.verdict.specs.declared.Refusal.TheVariants.{Sides, FullScale, Length, Code, Over}
 use Rattle.window.specs.Shape.{bad_sides, bad_scale, sites_of}
 use Rattle.window.specs.View.{bad_code, above, seen}
 
 -- 1: a side is odd or not in 2..128; 2: full scale not in 1..4095
 unfoldable pub shape_of : ℕ → ℕ → ℕ → Verdict
-unfolding ◌⨟◌ refuse_with
-shape_of w h full = refuse_if 1 0 (bad_sides w h) ⨟ refuse_if 2 0 (bad_scale full)
+shape_of w h full = refuse_if Sides (bad_sides w h) ⨟ refuse_if FullScale (bad_scale full)
 
 -- a length, or a tag, is not exactly the one needed
 abbrev pub other_than : ℕ → ℕ → Bool
@@ -18,11 +16,11 @@ other_than needed long = not (eqb long needed)
 
 -- 4, of a buffer that is to have one element for each site
 abbrev pub length_of : ℕ → ℕ → ℕ → Verdict
-length_of w h long = refuse_if 4 0 (other_than (sites_of w h) long)
+length_of w h long = refuse_if Length (other_than (sites_of w h) long)
 
 -- 5: a mask code is above 3, at the first such site of n
 abbrev pub codes_of : ℕ → List ℕ → Verdict
-codes_of n mask = refuse_first 5 0 n (bad_code mask)
+codes_of n mask = refuse_first Code n (bad_code mask)
 
 -- how many samples are above full scale, over n sites of each view: what 6 counts (document 02, d)
 unfoldable pub over_in : ℕ → ℕ → List (ℕ → ℕ) → ℕ
@@ -31,19 +29,18 @@ over_in n full (view ∷ views) = count_to n (above full view) + over_in n full 
 
 -- 6, of one view: what is seen at a site is above full scale, at the first such site of n; `over` is the call's count
 abbrev pub samples_of : ℕ → ℕ → ℕ → (ℕ → ℕ) → Verdict
-samples_of over n full view = refuse_first 6 over n (above full view)
+samples_of over n full view = refuse_first (λ (site : ℕ). Over site over) n (above full view)
 
 -- 6, of views in turn
 unfoldable pub samples_in : ℕ → ℕ → ℕ → List (ℕ → ℕ) → Verdict
-unfolding refuse_first
-samples_in over n full [] = Clear
+samples_in over n full [] = clear
 samples_in over n full (view ∷ views) = samples_of over n full view ⨟ samples_in over n full views
 
 -- 6, of all frames of a call, each as it is seen: the place is the first, frame after frame, and the count is over all of them
 abbrev pub range_of : ℕ → ℕ → ℕ → List (ℕ → ℕ) → Verdict
 range_of w h full views = samples_in (over_in (sites_of w h) full views) (sites_of w h) full views
 
--- 1 to 5 of a call with a mask, which hands in verdicts of its own: parameters, its 3, and lengths, its 4 of other buffers; Clear for none
+-- 1 to 5 of a call with a mask, which hands in verdicts of its own: parameters, its 3, and lengths, its 4 of other buffers; `clear` for none
 unfoldable pub mask_verdict : ℕ → ℕ → ℕ → Verdict → List ℕ → Verdict → Verdict
 mask_verdict w h full parameters mask lengths =
     shape_of w h full
@@ -61,5 +58,5 @@ frame_verdict w h full parameters mask frame lengths =
 -- 1 to 6 of a call with a mask and two frames, and no test of its own among them
 unfoldable pub frames_verdict : ℕ → ℕ → ℕ → List ℕ → List ℕ → List ℕ → Verdict
 frames_verdict w h full mask first second =
-    mask_verdict w h full Clear mask (length_of w h (length first) ⨟ length_of w h (length second))
+    mask_verdict w h full clear mask (length_of w h (length first) ⨟ length_of w h (length second))
     ⨟ range_of w h full (seen mask first ∷ seen mask second ∷ [])

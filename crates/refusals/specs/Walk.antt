@@ -1,4 +1,4 @@
--- What the walks of 6 ask and promise: how many sites they have.
+-- Of which sites the laws of 6 speak, where mask and frame have these lengths.
 use Rattle.std.specs.Prelude.{ℕ, cond, not, ◌||◌, eqb}
 use Rattle.window.specs.Shape.{bad_scale}
 use Rattle.window.specs.Walk.{walked}

@@ -3,8 +3,9 @@ use Prim.Native.Nat.{ℕ}
 use mathlib.Core.List.{List, [], ◌∷◌}
 use mathlib.Core.Path.{◌≡◌, refl}
 use lib.ListN.{length}
-use Rattle.verdict.specs.declared.Verdict.TheVariants.{Clear}
 use Rattle.verdict.proofs.Verdicts.{Tabled, Test, test, tabled, tabled_none, tabled_then, then_clear, clear_then}
+use Rattle.verdict.specs.Verdict.{clear}
+use Rattle.verdict.specs.declared.Refusal.TheVariants.{Sides, FullScale, Length}
 use Rattle.window.specs.Shape.{bad_sides, bad_scale, sites_of}
 use Rattle.window.specs.View.{seen}
 use Rattle.refusals.specs.Judge.{other_than}
@@ -18,12 +19,12 @@ module _ (w h full : ℕ) (mask frame : List ℕ) (out_frame out_mask : ℕ) whe
   -- the tests in the order of document 01
   abbrev pub repair_tests : List Test
   repair_tests =
-      test 1 0 (bad_sides w h)
-      ∷ test 2 0 (bad_scale full)
-      ∷ test 4 0 (other_than (sites_of w h) (length mask))
-      ∷ test 4 0 (other_than (sites_of w h) (length frame))
-      ∷ test 4 0 (other_than (sites_of w h) out_frame)
-      ∷ test 4 0 (other_than (sites_of w h) out_mask)
+      test Sides (bad_sides w h)
+      ∷ test FullScale (bad_scale full)
+      ∷ test Length (other_than (sites_of w h) (length mask))
+      ∷ test Length (other_than (sites_of w h) (length frame))
+      ∷ test Length (other_than (sites_of w h) out_frame)
+      ∷ test Length (other_than (sites_of w h) out_mask)
       ∷ codes_test (sites_of w h) mask
       ∷ samples_test w h full (seen mask frame ∷ []) (seen mask frame)
       ∷ []
@@ -32,7 +33,7 @@ module _ (w h full : ℕ) (mask frame : List ℕ) (out_frame out_mask : ℕ) whe
   unfolding repair_verdict
   repair_table = frame_tabled w h full mask frame tabled_none (tabled_then (tabled _ []) (tabled _ []))
 
-  pub repair_accepted : repair_verdict w h full mask frame out_frame out_mask ≡ Clear
+  pub repair_accepted : repair_verdict w h full mask frame out_frame out_mask ≡ clear
       → Framed w h full mask frame × (out_frame ≡ sites_of w h) × (out_mask ≡ sites_of w h)
   unfolding repair_verdict
   repair_accepted e =
@@ -41,7 +42,7 @@ module _ (w h full : ℕ) (mask frame : List ℕ) (out_frame out_mask : ℕ) whe
       (lent.2, length_clear (sites_of w h) out_frame both.0, length_clear (sites_of w h) out_mask both.1)
 
   pub repair_clear : Framed w h full mask frame → out_frame ≡ sites_of w h → out_mask ≡ sites_of w h
-      → repair_verdict w h full mask frame out_frame out_mask ≡ Clear
+      → repair_verdict w h full mask frame out_frame out_mask ≡ clear
   unfolding repair_verdict
   repair_clear a long_frame long_mask =
       clear_frame w h full mask frame a refl

@@ -13,9 +13,10 @@ use Rattle.laws.specs.Table.{tabulate}
 use Rattle.laws.proofs.Sums.{sum-zero}
 use Rattle.laws.proofs.Tables.{length-tabulate, get_d_tabulate, tabulated}
 use Rattle.laws.proofs.Sole.{Sole, sole}
-use Rattle.verdict.specs.declared.Verdict.TheVariants as verdict
 use Rattle.verdict.proofs.Verdicts.{Tabled, RefusesCounting, refuses_counting}
-use Rattle.verdict.proofs.Answers.{counted-told}
+use Rattle.verdict.proofs.Answers.{counted_is_told}
+use Rattle.verdict.specs.Verdict.{clear}
+use Rattle.std.specs.Prelude.{Ok}
 use Rattle.window.specs.Shape.{sites_of}
 use Rattle.window.specs.View.{seen_at, seen, one, above}
 use Rattle.window.proofs.Sides.{sides}
@@ -25,7 +26,6 @@ use Rattle.refusals.proofs.Ranges.{one_counting}
 use Rattle.refusals.proofs.Judges.{Framed}
 use Rattle.near.specs.Near.{near_sum}
 use Rattle.repair.specs.Repair.{mean_of, filled_at, sample_after, code_after, filled_count, repair_verdict, repair_answer, repair_paper_of, repair_paper, repair_frame, repair_mask}
-use Rattle.repair.specs.declared.Repaired.TheVariants.{Filled}
 use Rattle.near.proofs.Nears.{Near, near_same, near_most, near-least}
 use Rattle.repair.proofs.Accepts.{repair_tests, repair_table, repair_accepted, repair_clear}
 use Rattle.repair.proofs.Repairs.{fillable, filled_new, same_seen, not_again, at_least, at_most, filled_some, same-filled, same_code, same_sample, mean_most, mean-least, not_defect, kept_code, kept_sample, new_sample}
@@ -49,7 +49,7 @@ module _ (w h full : ℕ) (mask frame out_frame out_mask : List ℕ) where
   -- the paper's numbers are those of the answer
   pub paper_is : repair_paper_of (repair_answer w h full mask frame (length out_frame) (length out_mask)) ≡ repair_paper w h full mask frame (length out_frame) (length out_mask)
   unfolding repair_answer repair_paper
-  paper_is = counted-told repair_paper_of (repair_verdict w h full mask frame (length out_frame) (length out_mask)) refl (λ r. refl)
+  paper_is = counted_is_told 0 (filled_count w h mask) (repair_verdict w h full mask frame (length out_frame) (length out_mask))
 
   -- given: each refusal exactly as document 01 tables it, in that order (`repair_tests` has the table)
   pub given : Tabled (repair_verdict w h full mask frame (length out_frame) (length out_mask)) (repair_tests w h full mask frame (length out_frame) (length out_mask))
@@ -65,8 +65,8 @@ module _ (w h full : ℕ) (mask frame out_frame out_mask : List ℕ) where
   refused = refuses_counting (repair_verdict w h full mask frame (length out_frame) (length out_mask)) given refl refl (one_counting w h full (seen mask frame)) (λ r e. rw e (refl, refl, refl))
 
 -- what an accepted call answers and leaves behind
-module _ (w h full : ℕ) (mask frame out_frame out_mask : List ℕ) (accepted : repair_verdict w h full mask frame (length out_frame) (length out_mask) ≡ verdict.Clear) where
-  filled_as : repair_answer w h full mask frame (length out_frame) (length out_mask) ≡ Filled (sum_to (sites_of w h) (filled_at w h mask))
+module _ (w h full : ℕ) (mask frame out_frame out_mask : List ℕ) (accepted : repair_verdict w h full mask frame (length out_frame) (length out_mask) ≡ clear) where
+  filled_as : repair_answer w h full mask frame (length out_frame) (length out_mask) ≡ Ok (sum_to (sites_of w h) (filled_at w h mask))
   unfolding repair_answer filled_count
   filled_as = rw accepted
 
@@ -79,7 +79,7 @@ module _ (w h full : ℕ) (mask frame out_frame out_mask : List ℕ) (accepted :
   mask_as = rw accepted
 
 -- of accepted calls
-module _ (w h full : ℕ) (mask frame out_frame out_mask : List ℕ) (accepted : repair_verdict w h full mask frame (length out_frame) (length out_mask) ≡ verdict.Clear) where
+module _ (w h full : ℕ) (mask frame out_frame out_mask : List ℕ) (accepted : repair_verdict w h full mask frame (length out_frame) (length out_mask) ≡ clear) where
   abbrev M : List ℕ
   M = repair_mask w h full mask frame (length out_frame) out_mask
 
@@ -189,14 +189,14 @@ module _ (w h full : ℕ) (mask frame out_frame out_mask : List ℕ) (accepted :
   pub again : (m f second third : List ℕ)
       → m ≡ repair_mask w h full mask frame (length out_frame) out_mask → f ≡ repair_frame w h full mask frame out_frame (length out_mask)
       → length second ≡ sites_of w h → length third ≡ sites_of w h
-      → (repair_answer w h full m f (length second) (length third) ≡ Filled 0)
+      → (repair_answer w h full m f (length second) (length third) ≡ Ok 0)
       × (repair_frame w h full m f second (length third) ≡ f)
       × (repair_mask w h full m f (length second) third ≡ m)
   again m f second third at_mask at_frame long_frame long_mask =
       let also = repair_clear w h full M F (length second) (length third) accepted_again long_frame long_mask in
       let zero = sum-zero (sites_of w h) (filled_at w h M) none_filled in
       rw (at_mask, at_frame) (
-        filled_as w h full M F second third also ∙ ap Filled zero,
+        filled_as w h full M F second third also ∙ ap Ok zero,
         frame_as w h full M F second third also
             ∙ sym (tabulated (sites_of w h) (sample_after w h M (seen M F) F) F accepted_again.framed (λ i l. kept_sample w h M i (seen M F) F (none_filled i l))),
         mask_as w h full M F second third also
@@ -218,7 +218,7 @@ module _ (w h full : ℕ) (mask frame out_frame out_mask : List ℕ) (accepted :
       let code : (i : ℕ) → i < h * w → get_or m i 0 ≡ get_or mask (at i) 0 = λ i l. code_flip down across w h legal mask frame i l in
       let ones : (i : ℕ) → i < h * w → near_sum 1 w h (one m) i ≡ near_sum 1 w h (one mask) (at i) = λ i l. ones_flip down across w h legal mask frame 1 i l in (
         filled_as w h full m f out_frame out_mask also
-            ∙ ap Filled (flip_count down across w h legal (filled_at w h mask) (filled_at w h m) (λ i l. same-filled w h m mask i (at i) (code i l) (ones i l)))
+            ∙ ap Ok (flip_count down across w h legal (filled_at w h mask) (filled_at w h m) (λ i l. same-filled w h m mask i (at i) (code i l) (ones i l)))
             ∙ sym (filled_as w h full mask frame out_frame out_mask accepted),
         frame_as w h full m f out_frame out_mask also
             ∙ flip_table down across w h legal (sample_after w h mask (seen mask frame) frame) (sample_after w h m (seen m f) f)
@@ -237,12 +237,12 @@ same_verdict w h full mask frame other out_frame out_mask a = rw (a.long, same_v
 
 -- blind: nor does it change the sample of any site that is surveyed or filled
 pub blind_samples : (w h full : ℕ) (mask frame other out_frame out_mask : List ℕ) → Agree mask frame other
-    → repair_verdict w h full mask frame (length out_frame) (length out_mask) ≡ verdict.Clear → (i : ℕ) → i < sites_of w h
+    → repair_verdict w h full mask frame (length out_frame) (length out_mask) ≡ clear → (i : ℕ) → i < sites_of w h
     → (get_or mask i 0 ≡ 0) ⊎ ((get_or mask i 0 ≡ 2) × (get_or (repair_mask w h full mask frame (length out_frame) out_mask) i 0 ≡ 3))
     → get_or (repair_frame w h full mask frame out_frame (length out_mask)) i 0 ≡ get_or (repair_frame w h full mask other out_frame (length out_mask)) i 0
 unfolding filled_at code_after
 blind_samples w h full mask frame other out_frame out_mask a accepted i l decided-here =
-    let also : repair_verdict w h full mask other (length out_frame) (length out_mask) ≡ verdict.Clear =
+    let also : repair_verdict w h full mask other (length out_frame) (length out_mask) ≡ clear =
     sym (same_verdict w h full mask frame other (length out_frame) (length out_mask) a) ∙ accepted in
     let sums = ap (λ (view : ℕ → ℕ). near_sum 1 w h view i) (same_view a) in
     sample_at_lem w h full mask frame out_frame out_mask accepted i l

@@ -6,17 +6,12 @@ use mathlib.Core.Path.{◌≡◌, refl, ◌∙◌}
 use native.Mathlib.Nat.{div-lt_iff_lt-mul, le-div_iff_mul-le, add-mul, mul_left_comm}
 use native.Mathlib.Omega.{arith}
 use lib.Dec.{eqb, ltb}
-use lib.ListN.{length, get_or}
-use borrow.Author.Tests.{eqb-true, ltb-true, eq-eqb, ne_eqb, lt-ltb}
-use Rattle.laws.specs.Table.{tabulate}
-use Rattle.verdict.specs.declared.Refusal.{Refusal}
-use Rattle.verdict.specs.declared.Verdict.TheVariants as verdict
-use Rattle.window.specs.Shape.{sites_of}
+use lib.ListN.{get_or}
+use borrow.Author.Tests.{eqb-true, ltb-true, ne_eqb}
 use Rattle.window.specs.View.{surveyed, seen_at, seen, one}
 use Rattle.window.proofs.Views.{seen_most, seen_counted}
 use Rattle.near.specs.Near.{near_sum}
-use Rattle.repair.specs.Repair.{mean_of, filled_at, sample_after, code_after, filled_count, repair_verdict, repair_answer, repair_paper_of, repair_paper, repair_frame, repair_mask}
-use Rattle.repair.specs.declared.Repaired.TheVariants.{Filled, Refused}
+use Rattle.repair.specs.Repair.{mean_of, filled_at, sample_after, code_after}
 use Rattle.near.proofs.Turns.{after, decided}
 
 -- the mean of samples that are at least `least` and at most `most` is so too
@@ -37,22 +32,9 @@ module _ (w h : ℕ) (mask : List ℕ) (i : ℕ) where
   unfolding filled_at
   not_defect other = rw (ne_eqb (get_or mask i 0) 2 other)
 
-  -- nor is one with no surveyed neighbour
-  pub no_neighbour : get_or mask i 0 ≡ 2 → near_sum 1 w h (one mask) i ≡ 0 → filled_at w h mask i ≡ 0
-  unfolding filled_at
-  no_neighbour here none = rw (eq-eqb (get_or mask i 0) 2 here, none)
-
-  pub neighboured : get_or mask i 0 ≡ 2 → (near_sum 1 w h (one mask) i ≡ 0 → ⊥) → filled_at w h mask i ≡ 1
-  unfolding filled_at
-  neighboured here some = rw (eq-eqb (get_or mask i 0) 2 here, lt-ltb 0 (near_sum 1 w h (one mask) i) (omega arith))
-
   pub kept_code : filled_at w h mask i ≡ 0 → get_or mask i 0 ≡ code_after w h mask i
   unfolding code_after
   kept_code e = rw e
-
-  pub new_code : filled_at w h mask i ≡ 1 → 3 ≡ code_after w h mask i
-  unfolding code_after
-  new_code e = rw e
 
   module _ (view : ℕ → ℕ) (frame : List ℕ) where
     pub kept_sample : filled_at w h mask i ≡ 0 → get_or frame i 0 ≡ sample_after w h mask view frame i
@@ -132,24 +114,3 @@ module _ (w h : ℕ) (m n : List ℕ) (i j : ℕ) (code : get_or m i 0 ≡ get_o
       → sample_after w h m f k i ≡ sample_after w h n g l j
   unfolding sample_after
   same_sample f g k l sample sums = rw (same-filled, sample, sums, ones)
-
--- what the verdict makes of the answer, its numbers and the two buffers
-module _ (w h full : ℕ) (mask frame out_frame out_mask : List ℕ) where
-  pub repair_refused : (r : Refusal) → repair_verdict w h full mask frame (length out_frame) (length out_mask) ≡ verdict.Refused r
-      → (Refused r ≡ repair_answer w h full mask frame (length out_frame) (length out_mask))
-      × ((repair_paper_of (Refused r) ≡ repair_paper w h full mask frame (length out_frame) (length out_mask))
-      × ((out_frame ≡ repair_frame w h full mask frame out_frame (length out_mask))
-      × (out_mask ≡ repair_mask w h full mask frame (length out_frame) out_mask)))
-  unfolding repair_answer repair_paper repair_frame repair_mask
-  repair_refused r e = rw e (refl, (refl, (refl, refl)))
-
-  pub repair_done : (count : ℕ) (samples codes : List ℕ)
-      → count ≡ filled_count w h mask
-      → samples ≡ tabulate (sites_of w h) (sample_after w h mask (seen mask frame) frame) → codes ≡ tabulate (sites_of w h) (code_after w h mask)
-      → repair_verdict w h full mask frame (length out_frame) (length out_mask) ≡ verdict.Clear
-      → (Filled count ≡ repair_answer w h full mask frame (length out_frame) (length out_mask))
-      × ((repair_paper_of (Filled count) ≡ repair_paper w h full mask frame (length out_frame) (length out_mask))
-      × ((samples ≡ repair_frame w h full mask frame out_frame (length out_mask))
-      × (codes ≡ repair_mask w h full mask frame (length out_frame) out_mask)))
-  unfolding repair_answer repair_paper repair_frame repair_mask
-  repair_done count samples codes n s m e = rw (e, n, s, m) (refl, (refl, (refl, refl)))

@@ -1,17 +1,14 @@
 -- Document 01, "Repair": what `repair` answers and leaves in the lent frame and mask.
-use Rattle.std.specs.Prelude.{ℕ, ◌+◌, ◌*◌, ◌/◌, cond, List, eqb, ltb, length, get_or}
+use Rattle.std.specs.Prelude.{ℕ, ◌+◌, ◌*◌, ◌/◌, cond, List, eqb, ltb, length, get_or, Result}
 use Rattle.laws.specs.Sum.{sum_to}
 use Rattle.laws.specs.Table.{tabulate}
-use Rattle.verdict.specs.Verdict.{◌⨟◌, if_clear}
-use Rattle.verdict.specs.Answer.{answer_of, CountedPaper, accepted_counted, refused_counted, counted_for}
-use Rattle.verdict.specs.declared.Verdict.{Verdict}
-use Rattle.verdict.specs.declared.Verdict.TheVariants as verdict
+use Rattle.verdict.specs.Verdict.{Verdict, clear, ◌⨟◌, if_clear}
+use Rattle.verdict.specs.Answer.{answer_of, CountedPaper, answer_counted, counted_for}
+use Rattle.verdict.specs.declared.Refusal.{Refusal}
 use Rattle.window.specs.Shape.{sites_of}
 use Rattle.window.specs.View.{defect, filled, one, seen}
 use Rattle.refusals.specs.Judge.{length_of, frame_verdict}
 use Rattle.near.specs.Near.{near_sum}
-use Rattle.repair.specs.declared.Repaired.{Repaired}
-use Rattle.repair.specs.declared.Repaired.TheVariants.{Filled, Refused}
 
 -- the surveyed sites among the eight plane neighbours of a site of code 2, which is not surveyed itself
 abbrev pub neighbours : ℕ → ℕ → List ℕ → ℕ → ℕ
@@ -42,17 +39,16 @@ filled_count w h mask = sum_to (sites_of w h) (filled_at w h mask)
 -- the refusals in their order, of the mask, the frame and the lengths of the two buffers that are written: 1, 2, 4, 5, 6
 unfoldable pub repair_verdict : ℕ → ℕ → ℕ → List ℕ → List ℕ → ℕ → ℕ → Verdict
 repair_verdict w h full mask frame out_frame out_mask =
-    frame_verdict w h full verdict.Clear mask frame (length_of w h out_frame ⨟ length_of w h out_mask)
+    frame_verdict w h full clear mask frame (length_of w h out_frame ⨟ length_of w h out_mask)
 
 -- the answer: the count, or the refusal
-unfoldable pub repair_answer : ℕ → ℕ → ℕ → List ℕ → List ℕ → ℕ → ℕ → Repaired
+unfoldable pub repair_answer : ℕ → ℕ → ℕ → List ℕ → List ℕ → ℕ → ℕ → Result ℕ Refusal
 repair_answer w h full mask frame out_frame out_mask =
-    answer_of (repair_verdict w h full mask frame out_frame out_mask) (Filled (filled_count w h mask)) Refused
+    answer_of (repair_verdict w h full mask frame out_frame out_mask) (filled_count w h mask)
 
 -- the paper's numbers of an answer
-abbrev pub repair_paper_of : Repaired → CountedPaper ℕ
-repair_paper_of (Filled count) = accepted_counted count
-repair_paper_of (Refused r) = refused_counted r 0
+abbrev pub repair_paper_of : Result ℕ Refusal → CountedPaper ℕ
+repair_paper_of = answer_counted 0
 
 -- the paper's numbers for all inputs
 unfoldable pub repair_paper : ℕ → ℕ → ℕ → List ℕ → List ℕ → ℕ → ℕ → CountedPaper ℕ

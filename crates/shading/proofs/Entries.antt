@@ -22,13 +22,12 @@ use Rattle.blocks.specs.Table.{entry_sum}
 use Rattle.blocks.proofs.Areas.{block_sites, centre_sites, entry_below, entry_area_lem}
 use Rattle.blocks.proofs.Sites.{plane_few}
 use Rattle.blocks.proofs.Afresh.{TableOf, table_summed}
-use Rattle.shading.specs.Shade.{tint, shade_of}
+use Rattle.shading.specs.Shade.{tint, shade_of, written_of}
 use Rattle.shading.specs.Judge.{impossible_in, planes_of, entry_of, tint_of, shade_in, shade_at}
 use Rattle.shading.specs.Walk.{Possible}
 use Rattle.shading.specs.declared.Asked.{Asked}
 use Rattle.shading.specs.declared.Lengths.{Lengths}
-use Rattle.shading.specs.declared.Planes.{Planes}
-use Rattle.shading.specs.declared.Tint.{Tint}
+use Rattle.shading.specs.OfRatio.{Planes, Tint}
 use Rattle.shading.proofs.Judging.{Accepted, credible}
 use Rattle.shading.proofs.Shades.{Fits, fits}
 
@@ -80,7 +79,7 @@ module _ (call : Asked) (totals counts : List ℕ) (planes : Planes) where
   area k = tint (entry_of call.width call.height totals counts planes.colour k) (entry_of call.width call.height totals counts planes.green k)
 
   pub shade_in_lem : (ratio k : ℕ) → planes_of call.order ratio ≡ planes
-      → shade_in call totals counts ratio k ≡ shade_of call.black call.limit (area k) (area (blocks_of call.width call.height))
+      → shade_in call totals counts ratio k ≡ written_of (shade_of call.black call.limit (area k) (area (blocks_of call.width call.height)))
   unfolding shade_in tint_of
   shade_in_lem ratio k e = rw e
 

@@ -1,21 +1,23 @@
 -- The verdict of `shading_judge`, what an accepted call has, and what the verdict makes of the answer and the buffers.
 use Prim.Native.Nat.{ℕ, ◌*◌, ◌/◌, ◌≤◌, ◌<◌}
-use mathlib.Core.Bool.{Bool, false}
+use mathlib.Core.Bool.{false}
 use mathlib.Core.List.{List, [], ◌∷◌, ◌++◌}
-use mathlib.Core.Path.{◌≡◌, refl}
+use mathlib.Core.Path.{◌≡◌, refl, sym}
 use native.Mathlib.Omega.{arith}
 use lib.Dec.{eqb, ltb}
 use lib.ListN.{length}
 use borrow.Author.Tests.{ltb-false, eqb-false}
+use Rattle.verdict.specs.Answer.{Nothing, nothing}
 use Rattle.laws.specs.Table.{held}
 use Rattle.laws.proofs.Cases.{neither}
 use Rattle.laws.proofs.Firsts.{first_nowhere}
 use Rattle.laws.proofs.Tables.{get_d_tabulate}
-use Rattle.verdict.specs.Verdict.{◌⨟◌, refuse_if}
+use Rattle.verdict.specs.Verdict.{clear}
 use Rattle.verdict.specs.declared.Refusal.{Refusal}
-use Rattle.verdict.specs.declared.Verdict.TheVariants as verdict
 use Rattle.verdict.proofs.Verdicts.{Test, Tabled, Passed, past, end, test, tabled, tabled_then, then_clear, unless}
 use Rattle.verdict.proofs.Answers.{was_accepted}
+use Rattle.verdict.specs.declared.Refusal.TheVariants.{Sides, FullScale, Parameter, Length, TooSmall, Impossible}
+use Rattle.std.specs.Prelude.{Result, Ok, Err}
 use Rattle.window.specs.Shape.{bad_sides, bad_scale}
 use Rattle.window.proofs.Sides as sides
 use Rattle.refusals.specs.Judge.{other_than}
@@ -26,8 +28,7 @@ use Rattle.blocks.proofs.Promises.{Credible}
 use Rattle.shading.specs.Judge.{bad_limit, impossible, impossible_at, impossible_in, lent_verdict, judge_verdict, shade_at, shades_of, judge_answer, paper_of, judge_paper, judge_buffer, judge_numerators, judge_denominators, judge_refusals, judge_fails}
 use Rattle.shading.specs.declared.Asked.{Asked}
 use Rattle.shading.specs.declared.Lengths.{Lengths}
-use Rattle.shading.specs.declared.Shade.{Shade}
-use Rattle.shading.specs.declared.Judged.TheVariants.{Done, Refused}
+use Rattle.shading.specs.Shade.{Written}
 
 -- an entry that 11 lets pass
 module _ (full sites total count : ℕ) where
@@ -48,18 +49,18 @@ credible w h full totals counts none e l =
 module _ (call : Asked) (long : Lengths) (totals counts : ℕ) where
   abbrev pub lent_tests : List Test
   lent_tests =
-      test 1 0 (bad_sides call.width call.height)
-      ∷ test 2 0 (bad_scale call.full)
-      ∷ test 3 0 (ltb call.full call.black)
-      ∷ test 3 0 (ltb 3 call.order)
-      ∷ test 3 0 (bad_limit call.limit)
-      ∷ test 4 0 (other_than (entries_of call.width call.height) totals)
-      ∷ test 4 0 (other_than (entries_of call.width call.height) counts)
-      ∷ test 4 0 (other_than (2 * blocks_of call.width call.height) long.numerators)
-      ∷ test 4 0 (other_than (2 * blocks_of call.width call.height) long.denominators)
-      ∷ test 4 0 (other_than (2 * blocks_of call.width call.height) long.refusals)
-      ∷ test 4 0 (other_than (2 * blocks_of call.width call.height) long.fails)
-      ∷ test 9 0 (too_small call.width call.height)
+      test Sides (bad_sides call.width call.height)
+      ∷ test FullScale (bad_scale call.full)
+      ∷ test Parameter (ltb call.full call.black)
+      ∷ test Parameter (ltb 3 call.order)
+      ∷ test Parameter (bad_limit call.limit)
+      ∷ test Length (other_than (entries_of call.width call.height) totals)
+      ∷ test Length (other_than (entries_of call.width call.height) counts)
+      ∷ test Length (other_than (2 * blocks_of call.width call.height) long.numerators)
+      ∷ test Length (other_than (2 * blocks_of call.width call.height) long.denominators)
+      ∷ test Length (other_than (2 * blocks_of call.width call.height) long.refusals)
+      ∷ test Length (other_than (2 * blocks_of call.width call.height) long.fails)
+      ∷ test TooSmall (too_small call.width call.height)
       ∷ []
 
   lent_table : Tabled (lent_verdict call long totals counts) lent_tests
@@ -86,7 +87,7 @@ module _ (call : Asked) (long : Lengths) (totals counts : ℕ) where
     pub refusals_long : long.refusals ≡ 2 * blocks_of call.width call.height
     pub fails-long : long.fails ≡ 2 * blocks_of call.width call.height
 
-  pub lent : lent_verdict call long totals counts ≡ verdict.Clear → Lent
+  pub lent : lent_verdict call long totals counts ≡ clear → Lent
   unfolding bad_limit too_small
   lent e = by (lent_table.clear e)
     where
@@ -115,7 +116,7 @@ module _ (call : Asked) (long : Lengths) (totals counts : ℕ) where
 module _ (call : Asked) (long : Lengths) (totals counts : List ℕ) where
   -- the tests in the order of document 02, j: then 11; 7 and 10 are each block's own, after it
   abbrev pub tests : List Test
-  tests = lent_tests call long (length totals) (length counts) ++ (test 11 0 (impossible_in call.width call.height call.full totals counts) ∷ [])
+  tests = lent_tests call long (length totals) (length counts) ++ (test Impossible (impossible_in call.width call.height call.full totals counts) ∷ [])
 
   pub table : Tabled (judge_verdict call long totals counts) tests
   unfolding judge_verdict
@@ -126,7 +127,7 @@ module _ (call : Asked) (long : Lengths) (totals counts : List ℕ) where
     pub of : Lent call long (length totals) (length counts)
     pub possible : impossible_in call.width call.height call.full totals counts ≡ false
 
-  pub accepted : judge_verdict call long totals counts ≡ verdict.Clear → Accepted
+  pub accepted : judge_verdict call long totals counts ≡ clear → Accepted
   unfolding judge_verdict
   accepted e =
       let both = then_clear _ _ e in
@@ -135,47 +136,35 @@ module _ (call : Asked) (long : Lengths) (totals counts : List ℕ) where
         possible = unless _ (impossible_in call.width call.height call.full totals counts) both.1;
       }
 
-  -- 11 is asked only of a table that the others let pass
-  pub asked_last : lent_verdict call long (length totals) (length counts) ≡ verdict.Clear
-      → (found : Bool) → found ≡ impossible_in call.width call.height call.full totals counts
-      → refuse_if 11 0 found ≡ judge_verdict call long totals counts
-  unfolding judge_verdict ◌⨟◌
-  asked_last e found f = rw (e, f)
-
-  pub lent_refused : (r : Refusal) → lent_verdict call long (length totals) (length counts) ≡ verdict.Refused r
-      → verdict.Refused r ≡ judge_verdict call long totals counts
-  unfolding judge_verdict ◌⨟◌
-  lent_refused r e = rw e
-
   -- done is told of a clear verdict only
-  pub done_clear : judge_answer call long totals counts ≡ Done → judge_verdict call long totals counts ≡ verdict.Clear
+  pub done_clear : judge_answer call long totals counts ≡ Ok nothing → judge_verdict call long totals counts ≡ clear
   unfolding judge_answer
-  done_clear e = (was_accepted (judge_verdict call long totals counts) (λ r f. let z : ◌≡◌ {A = ℕ} 0 1 = cc in omega arith) e).0
+  done_clear e = (was_accepted (judge_verdict call long totals counts) e).0
 
   -- an accepted call's buffers hold the shades' parts
-  pub written : judge_verdict call long totals counts ≡ verdict.Clear → (part : Shade → ℕ) (buffer : List ℕ) (j : ℕ) → j < 2 * blocks_of call.width call.height
+  pub written : judge_verdict call long totals counts ≡ clear → (part : Written → ℕ) (buffer : List ℕ) (j : ℕ) → j < 2 * blocks_of call.width call.height
       → held (judge_buffer part call long totals counts buffer) j ≡ part (shade_at call totals counts j)
   unfolding judge_buffer
   written e part buffer j l = rw e (get_d_tabulate (2 * blocks_of call.width call.height) (λ (i : ℕ). part (shade_at call totals counts i)) j l)
 
   -- what the verdict makes of the answer and the buffers
   module _ (numerators denominators refusals fails : List ℕ) where
-    pub refused_is : (r : Refusal) → judge_verdict call long totals counts ≡ verdict.Refused r
-        → (Refused r ≡ judge_answer call long totals counts)
-        × ((paper_of (Refused r) ≡ judge_paper call long totals counts)
+    pub refused_is : (told : Result Nothing Refusal) (r : Refusal) → told ≡ Err r → Err r ≡ judge_verdict call long totals counts
+        → (told ≡ judge_answer call long totals counts)
+        × ((paper_of told ≡ judge_paper call long totals counts)
         × ((numerators ≡ judge_numerators call long totals counts numerators)
         × ((denominators ≡ judge_denominators call long totals counts denominators)
         × ((refusals ≡ judge_refusals call long totals counts refusals)
         × (fails ≡ judge_fails call long totals counts fails)))))
     unfolding judge_answer judge_paper judge_buffer
-    refused_is r e = rw e (refl, (refl, (refl, (refl, (refl, refl)))))
+    refused_is told r s e = rw (s, sym e) (refl, (refl, (refl, (refl, (refl, refl)))))
 
-    pub accepted_is : judge_verdict call long totals counts ≡ verdict.Clear
-        → (Done ≡ judge_answer call long totals counts)
-        × ((paper_of Done ≡ judge_paper call long totals counts)
-        × ((shades_of (λ (s : Shade). s.numerator) call totals counts ≡ judge_numerators call long totals counts numerators)
-        × ((shades_of (λ (s : Shade). s.denominator) call totals counts ≡ judge_denominators call long totals counts denominators)
-        × ((shades_of (λ (s : Shade). s.number) call totals counts ≡ judge_refusals call long totals counts refusals)
-        × (shades_of (λ (s : Shade). s.fail) call totals counts ≡ judge_fails call long totals counts fails)))))
+    pub accepted_is : judge_verdict call long totals counts ≡ clear
+        → (Ok nothing ≡ judge_answer call long totals counts)
+        × ((paper_of (Ok nothing) ≡ judge_paper call long totals counts)
+        × ((shades_of (λ (s : Written). s.numerator) call totals counts ≡ judge_numerators call long totals counts numerators)
+        × ((shades_of (λ (s : Written). s.denominator) call totals counts ≡ judge_denominators call long totals counts denominators)
+        × ((shades_of (λ (s : Written). s.number) call totals counts ≡ judge_refusals call long totals counts refusals)
+        × (shades_of (λ (s : Written). s.fail) call totals counts ≡ judge_fails call long totals counts fails)))))
     unfolding judge_answer judge_paper judge_buffer
     accepted_is e = rw e (refl, (refl, (refl, (refl, (refl, refl)))))

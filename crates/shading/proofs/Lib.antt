@@ -1,3 +1,4 @@
+pub mod Numbers
 pub mod Judging
 pub mod Shades
 pub mod Machine

@@ -7,13 +7,12 @@ use native.Mathlib.Omega.{arith}
 use Rattle.laws.specs.Table.{held}
 use Rattle.laws.proofs.Cases.{is_within}
 use Rattle.laws.proofs.Tables.{get_d_tabulate, tabulate_ext}
-use Rattle.verdict.specs.Verdict.{if_clear}
-use Rattle.verdict.specs.declared.Verdict.{Verdict}
-use Rattle.verdict.specs.declared.Verdict.TheVariants as verdict
+use Rattle.verdict.specs.Verdict.{Verdict, if_clear}
+use Rattle.std.specs.Prelude.{Ok, Err}
 use Rattle.blocks.specs.Areas.{blocks_of}
 use Rattle.shading.specs.Judge.{asked, bad_limit, lent_verdict, judge_verdict, judge_answer, shade_in, shade_at, shades_of, judge_buffer, judge_fails}
 use Rattle.shading.specs.declared.Lengths.{Lengths}
-use Rattle.shading.specs.declared.Shade.{Shade}
+use Rattle.shading.specs.Shade.{Written}
 use Rattle.shading.proofs.Shades.{Eased, eased}
 
 -- a limit that 3 does not refuse
@@ -35,7 +34,7 @@ module _ (w h full black order low high : ℕ) (long : Lengths) (totals counts :
   eased_at j = eased black low high _ _ up
 
   -- a part of the shades that is the same at both limits is the same in the buffer
-  pub same_buffer : (part : Shade → ℕ) (buffer : List ℕ)
+  pub same_buffer : (part : Written → ℕ) (buffer : List ℕ)
       → ((j : ℕ) → part (shade_at (asked w h full black order low) totals counts j) ≡ part (shade_at (asked w h full black order high) totals counts j))
       → judge_buffer part (asked w h full black order low) long totals counts buffer ≡ judge_buffer part (asked w h full black order high) long totals counts buffer
   unfolding judge_buffer
@@ -48,9 +47,9 @@ module _ (w h full black order low high : ℕ) (long : Lengths) (totals counts :
   still_passes fails j l = rw same_verdict (by (judge_verdict (asked w h full black order high) long totals counts))
     where
       by : (v : Verdict)
-          → held (if_clear v (shades_of (λ (s : Shade). s.fail) (asked w h full black order low) totals counts) fails) j ≡ 0
-          → held (if_clear v (shades_of (λ (s : Shade). s.fail) (asked w h full black order high) totals counts) fails) j ≡ 0
-      by verdict.Clear e =
+          → held (if_clear v (shades_of (λ (s : Written). s.fail) (asked w h full black order low) totals counts) fails) j ≡ 0
+          → held (if_clear v (shades_of (λ (s : Written). s.fail) (asked w h full black order high) totals counts) fails) j ≡ 0
+      by (Ok u) e =
           get_d_tabulate (2 * blocks_of w h) _ j l
           ∙ (eased_at j).fail (sym (get_d_tabulate (2 * blocks_of w h) (λ (i : ℕ). (shade_at (asked w h full black order low) totals counts i).fail) j l) ∙ e)
-      by (verdict.Refused r) e = e
+      by (Err r) e = e

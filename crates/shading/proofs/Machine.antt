@@ -1,6 +1,6 @@
 -- What the machine's products and differences are: a shade stays far inside an i64.
 use Prim.Native.Nat.{ℕ, ◌*◌, ◌^◌, ◌≤◌, ◌<◌}
-use mathlib.Core.Bool.{cond}
+use mathlib.Core.Bool.{Bool}
 use mathlib.Core.Path.{◌≡◌, sym, ap, ap₂, ◌∙◌}
 use native.Mathlib.Omega.{arith}
 use lib.IntN.{ℤ, pos, nat_abs, ◌*ℤ◌, ◌-ℤ◌}
@@ -79,7 +79,7 @@ module _ {block centre : Ratio} (of-block : Small (4095 * 192 * 192) block) (of-
     pub denominator-low : denominator < 2 ^ 60
     denominator-low = omega (arith, denominator_is, base_most of-block of-centre)
 
-    pub shade_is : (limit fail : ℕ) → fail ≡ cond (fails limit numerator denominator) 1 0
-        → shade 0 numerator denominator fail ≡ judged_shade limit block centre
+    pub shade_is : (limit : ℕ) (fail : Bool) → fail ≡ fails limit numerator denominator
+        → shade numerator denominator fail ≡ judged_shade limit block centre
     unfolding judged_shade
     shade_is limit fail f = rw (f, numerator_is, denominator_is)

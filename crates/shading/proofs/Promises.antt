@@ -10,14 +10,15 @@ use lib.Arith.{digits_lt}
 use lib.IntN.{pos, ◌*ℤ◌}
 use lib.ListN.{length, get_or}
 use borrow.Author.Tests.{le-ltb}
+use Rattle.std.specs.Prelude.{Ok}
+use Rattle.verdict.specs.Answer.{nothing}
 use Rattle.laws.specs.Signed.{◌⊖◌}
 use Rattle.laws.specs.Table.{held}
 use Rattle.laws.proofs.Firsts.{nowhere_first}
 use Rattle.laws.proofs.Sole.{Sole, sole}
-use Rattle.verdict.specs.Verdict.{over_of}
-use Rattle.verdict.specs.declared.Verdict.TheVariants as verdict
+use Rattle.verdict.specs.Verdict.{clear, over_of}
 use Rattle.verdict.proofs.Verdicts.{Tabled, Refuses, refuses, never_placed, never_over, never_given}
-use Rattle.verdict.proofs.Answers.{paper_told}
+use Rattle.verdict.proofs.Answers.{paper_is_told}
 use Rattle.window.specs.Shape.{sites_of}
 use Rattle.window.specs.View.{surveyed}
 use Rattle.plane.specs.Plane.{plane_of}
@@ -29,8 +30,7 @@ use Rattle.blocks.proofs.Promises.{Credible, own_credible}
 use Rattle.shading.specs.Judge.{asked, lengths, impossible, impossible_at, impossible_in, judge_verdict, planes_of, planes, shade_in, judge_answer, paper_of, judge_paper, judge_buffer, judge_numerators, judge_denominators, judge_refusals, judge_fails}
 use Rattle.shading.specs.declared.Asked.{Asked}
 use Rattle.shading.specs.declared.Lengths.{Lengths}
-use Rattle.shading.specs.declared.Shade.{Shade}
-use Rattle.shading.specs.declared.Judged.TheVariants.{Done}
+use Rattle.shading.specs.Shade.{Written}
 use Rattle.shading.proofs.Judging.{Lent, tests, table, accepted, credible, done_clear, written}
 use Rattle.shading.proofs.Shades.{Told, Measured, flat_shade, told_seven, told_ten, told_none, told_one, told_zeros, measured}
 use Rattle.shading.proofs.Shades as shades
@@ -50,7 +50,7 @@ eleven_only call long totals counts e all =
     never_given (judge_verdict call long totals counts) (table call long totals counts) (rw none) (omega arith) e
 
 -- what four buffers hold at place j is one block and ratio's
-pub record Holds (numerators denominators refusals fails : List ℕ) (j : ℕ) (s : Shade) : Type 0 where
+pub record Holds (numerators denominators refusals fails : List ℕ) (j : ℕ) (s : Written) : Type 0 where
   pub numerator : held numerators j ≡ s.numerator
   pub denominator : held denominators j ≡ s.denominator
   pub refusal : held refusals j ≡ s.number
@@ -72,7 +72,7 @@ module _ (call : Asked) (totals counts numerators denominators refusals fails : 
   -- paper_is: the paper's numbers are those of the answer
   pub paper_is : paper_of (judge_answer call long totals counts) ≡ judge_paper call long totals counts
   unfolding judge_answer judge_paper
-  paper_is = paper_told paper_of (judge_verdict call long totals counts) refl (λ r. refl)
+  paper_is = paper_is_told nothing nothing (judge_verdict call long totals counts)
 
   -- given: 1 to 4, 9 and 11 exactly as tabled, in that order (`tests` has the table)
   pub given : Tabled (judge_verdict call long totals counts) (tests call long totals counts)
@@ -104,27 +104,27 @@ module _ (call : Asked) (totals counts numerators denominators refusals fails : 
   eleven = eleven_only call long totals counts
 
   -- ---- of an accepted call
-  module _ (done : judge_answer call long totals counts ≡ Done) where
-    clear : judge_verdict call long totals counts ≡ verdict.Clear
-    clear = done_clear call long totals counts done
+  module _ (done : judge_answer call long totals counts ≡ Ok nothing) where
+    passed : judge_verdict call long totals counts ≡ clear
+    passed = done_clear call long totals counts done
 
     -- limited: its sides, numbers and lengths are all within document 02's limits
     pub limited : Lent call long (length totals) (length counts)
-    limited = (accepted call long totals counts clear).of
+    limited = (accepted call long totals counts passed).of
 
     -- credible: and so are its entries: in each area no count is above its sites, 192 of a block and 768 of a centre, and no total above count × full scale
     pub credible_block : (plane k : ℕ) → plane < 4 → k < blocks_of call.width call.height
         → Credible call.full 192 (held totals (entry_at call.width call.height plane k)) (held counts (entry_at call.width call.height plane k))
     credible_block plane k few l =
         rw (entry_area_lem call.width call.height plane k (omega arith), block_sites call.width call.height k l) at
-        (credible call.width call.height call.full totals counts (accepted call long totals counts clear).possible (entry_at call.width call.height plane k) (entry_below call.width call.height plane k (omega arith) few))
+        (credible call.width call.height call.full totals counts (accepted call long totals counts passed).possible (entry_at call.width call.height plane k) (entry_below call.width call.height plane k (omega arith) few))
 
     pub credible_centre : (plane : ℕ) → plane < 4 → let e = entry_at call.width call.height plane (blocks_of call.width call.height) in
         Credible call.full 768 (held totals e) (held counts e)
     credible_centre plane few =
         let k = blocks_of call.width call.height in
         rw (entry_area_lem call.width call.height plane k (omega arith), centre_sites call.width call.height k (omega arith)) at
-        (credible call.width call.height call.full totals counts (accepted call long totals counts clear).possible (entry_at call.width call.height plane k) (entry_below call.width call.height plane k (omega arith) few))
+        (credible call.width call.height call.full totals counts (accepted call long totals counts passed).possible (entry_at call.width call.height plane k) (entry_below call.width call.height plane k (omega arith) few))
 
     -- told: the buffers hold every block and ratio, all of R/Gr (ratio 0) before all of B/Gb (ratio 1)
     pub told : (ratio k : ℕ) → ratio < 2 → k < blocks_of call.width call.height
@@ -136,10 +136,10 @@ module _ (call : Asked) (totals counts numerators denominators refusals fails : 
         let inside : j < 2 * blocks_of call.width call.height = digits_lt one_of_two l in
         let at = shade_at_lem call totals counts ratio k l in
         record {
-          numerator = written call long totals counts clear _ numerators j inside ∙ ap (λ (s : Shade). s.numerator) at;
-          denominator = written call long totals counts clear _ denominators j inside ∙ ap (λ (s : Shade). s.denominator) at;
-          refusal = written call long totals counts clear _ refusals j inside ∙ ap (λ (s : Shade). s.number) at;
-          fail = written call long totals counts clear _ fails j inside ∙ ap (λ (s : Shade). s.fail) at;
+          numerator = written call long totals counts passed _ numerators j inside ∙ ap (λ (s : Written). s.numerator) at;
+          denominator = written call long totals counts passed _ denominators j inside ∙ ap (λ (s : Written). s.denominator) at;
+          refusal = written call long totals counts passed _ refusals j inside ∙ ap (λ (s : Written). s.number) at;
+          fail = written call long totals counts passed _ fails j inside ∙ ap (λ (s : Written). s.fail) at;
         }
 
     module _ (j : ℕ) (inside : j < 2 * blocks_of call.width call.height) where
@@ -149,8 +149,8 @@ module _ (call : Asked) (totals counts numerators denominators refusals fails : 
       -- bounds: every numerator and denominator is below 2^60, so that 16 times either fits 64 bits
       pub bounds : (held (judge_numerators call long totals counts numerators) j < 2 ^ 60) × (held (judge_denominators call long totals counts denominators) j < 2 ^ 60)
       bounds =
-          let f = shade_fits call long totals counts (accepted call long totals counts clear) _ _ block_in in
-          (rw (written call long totals counts clear _ numerators j inside) f.numerator, rw (written call long totals counts clear _ denominators j inside) f.denominator)
+          let f = shade_fits call long totals counts (accepted call long totals counts passed) _ _ block_in in
+          (rw (written call long totals counts passed _ numerators j inside) f.numerator, rw (written call long totals counts passed _ denominators j inside) f.denominator)
 
       -- flat: where in each plane every total is one sample × count, every numerator is 0
       pub flat : (s : ℕ → ℕ)
@@ -161,8 +161,8 @@ module _ (call : Asked) (totals counts numerators denominators refusals fails : 
           let n = blocks_of call.width call.height in
           let of = planes_of call.order (j / n) in
           let low = in_four call.order (j / n) in
-          written call long totals counts clear _ numerators j inside
-          ∙ ap (λ (s : Shade). s.numerator) (shade_in_lem call totals counts of (j / n) (j % n) refl)
+          written call long totals counts passed _ numerators j inside
+          ∙ ap (λ (s : Written). s.numerator) (shade_in_lem call totals counts of (j / n) (j % n) refl)
           ∙ flat_shade call.black (s of.colour) (s of.green) (area call totals counts of (j % n)) (area call totals counts of n)
           (record { in_one = even of.colour (j % n) low.colour (omega (arith, block_in)); in_other = even of.colour n low.colour (omega arith) })
           (record { in_one = even of.green (j % n) low.green (omega (arith, block_in)); in_other = even of.green n low.green (omega arith) })
@@ -186,7 +186,7 @@ pub record SameAt (totals counts totals' counts' : List ℕ) (e : ℕ) : Type 0 
 
 module _ (call : Asked) (totals counts : List ℕ) (ratio colour green k : ℕ) (over : Over call.order ratio colour green) where
   -- the block and ratio, what the table holds of area k of a plane, and which area is the centre
-  abbrev shade : Shade
+  abbrev shade : Written
   shade = shade_in call totals counts ratio k
 
   abbrev total : ℕ → ℕ → ℕ
@@ -302,7 +302,7 @@ module _ (w h full : ℕ) (mask frame totals counts : List ℕ) (is : TableOf w 
       → (scale black order limit : ℕ) (numerators denominators refusals fails : List ℕ)
       → let call = asked w h scale black order limit in
       let long = lengths (length numerators) (length denominators) (length refusals) (length fails) in
-      judge_answer call long totals counts ≡ Done
+      judge_answer call long totals counts ≡ Ok nothing
       → (j : ℕ) → j < 2 * blocks_of w h → held (judge_numerators call long totals counts numerators) j ≡ 0
   flat_window s same scale black order limit numerators denominators refusals fails done j l =
       flat (asked w h scale black order limit) totals counts numerators denominators refusals fails done j l s (λ plane k few last.

@@ -8,6 +8,9 @@ use native.Mathlib.Omega.{arith}
 use lib.Dec.{eqb, ltb}
 use lib.IntN.{ℤ, pos, negsuc, nat_abs, neg_ℤ, ◌*ℤ◌, ◌-ℤ◌, +ℤ_invr}
 use borrow.Author.Tests.{ltb-false, lt-ltb, le-ltb, eqb-true, eqb-false, not-true}
+use Rattle.std.specs.Prelude.{Ok, Err}
+use Rattle.verdict.specs.Verdict.{◌⨟◌, refuse_if}
+use Rattle.verdict.specs.declared.Refusal.TheVariants.{TooFew, TooDark}
 use Rattle.laws.specs.Signed.{◌⊖◌}
 use Rattle.laws.proofs.Cases.{neither, either, times_le}
 use Rattle.laws.proofs.Signeds.{⊖-zero, ⊖-ge, ⊖-less, ⊖-scale, ⊖-sub, ⊖-within}
@@ -15,10 +18,9 @@ use Rattle.plane.specs.declared.Sums.{Sums}
 use Rattle.colour.specs.Colour.{above_black, not_above, ratio_of}
 use Rattle.colour.specs.declared.Ratio.{Ratio}
 use Rattle.colour.proofs.Totals.{not_above_is, above_black_lem}
-use Rattle.shading.specs.Shade.{ratio_in, unseen, too_few, too_dark, offset, base, fails, refused_shade, judged_shade, shade_of}
+use Rattle.shading.specs.Shade.{ratio_in, unseen, too_few, too_dark, offset, base, fails, judged_shade, shade_of, Written, written_of}
 use Rattle.shading.specs.Walk.{Possible}
-use Rattle.shading.specs.declared.Tint.{Tint}
-use Rattle.shading.specs.declared.Shade.{Shade}
+use Rattle.shading.specs.OfRatio.{Tint}
 
 -- ---- 7 and 10
 -- one of the two planes has no surveyed site in the block or at the centre
@@ -54,10 +56,10 @@ pub not_lit : {black : ℕ} {block centre : Tint} → Lit black block centre →
 not_lit l = ⊎_elim (λ e. omega arith) (⊎_elim (λ e. omega arith) (λ e. omega arith))
 
 -- the three ways in which a block and ratio is told
-pub data Told (black limit : ℕ) (block centre : Tint) : Shade → Type 0 where
-  seven : Unsurveyed block centre → Told black limit block centre (refused_shade 7)
-  ten : Surveyed block centre → Dim black block centre → Told black limit block centre (refused_shade 10)
-  judged : Surveyed block centre → Lit black block centre → Told black limit block centre (judged_shade limit (ratio_in black block) (ratio_in black centre))
+pub data Told (black limit : ℕ) (block centre : Tint) : Written → Type 0 where
+  seven : Unsurveyed block centre → Told black limit block centre (written_of (Err TooFew))
+  ten : Surveyed block centre → Dim black block centre → Told black limit block centre (written_of (Err TooDark))
+  judged : Surveyed block centre → Lit black block centre → Told black limit block centre (written_of (Ok (judged_shade limit (ratio_in black block) (ratio_in black centre))))
 
 module _ (block centre : Tint) where
   unsurveyed : too_few block centre ≡ true → Unsurveyed block centre
@@ -106,33 +108,33 @@ module _ (block centre : Tint) where
           centre_colour = above_black_lem black centre.colour rest.1;
         }
 
-    pub told : (limit : ℕ) → Told black limit block centre (shade_of black limit block centre)
+    pub told : (limit : ℕ) → Told black limit block centre (written_of (shade_of black limit block centre))
     unfolding shade_of
     told limit = by (too_few block centre) (too_dark black block centre) refl refl
       where
         by : (few dark : Bool) → too_few block centre ≡ few → too_dark black block centre ≡ dark
             → Told black limit block centre
-            (cond few (refused_shade 7) (cond dark (refused_shade 10) (judged_shade limit (ratio_in black block) (ratio_in black centre))))
+            (written_of (refuse_if TooFew few ⨟ refuse_if TooDark dark ⨟ Ok (judged_shade limit (ratio_in black block) (ratio_in black centre))))
         by true dark p q = seven (unsurveyed p)
         by false true p q = ten (surveyed p) (dim q)
         by false false p q = judged (surveyed p) (lit q)
 
 -- ---- what is told by the number
 module _ {black limit : ℕ} {block centre : Tint} where
-  pub told_seven : {s : Shade} → Told black limit block centre s → (s.number ≡ 7 → Unsurveyed block centre) × (Unsurveyed block centre → s.number ≡ 7)
+  pub told_seven : {s : Written} → Told black limit block centre s → (s.number ≡ 7 → Unsurveyed block centre) × (Unsurveyed block centre → s.number ≡ 7)
   unfolding judged_shade
   told_seven (seven u) = (λ e. u, λ u. refl)
   told_seven (ten s d) = (λ e. absurd (omega arith), λ u. absurd (not_surveyed s u))
   told_seven (judged s l) = (λ e. absurd (omega arith), λ u. absurd (not_surveyed s u))
 
-  pub told_ten : {s : Shade} → Told black limit block centre s
+  pub told_ten : {s : Written} → Told black limit block centre s
       → (s.number ≡ 10 → (Unsurveyed block centre → ⊥) × Dim black block centre) × ((Unsurveyed block centre → ⊥) → Dim black block centre → s.number ≡ 10)
   unfolding judged_shade
   told_ten (seven u) = (λ e. absurd (omega arith), λ f d. absurd (f u))
   told_ten (ten s d) = (λ e. (not_surveyed s, d), λ f d. refl)
   told_ten (judged s l) = (λ e. absurd (omega arith), λ f d. absurd (not_lit l d))
 
-  pub told_none : {s : Shade} → Told black limit block centre s
+  pub told_none : {s : Written} → Told black limit block centre s
       → (s.number ≡ 0 → (Unsurveyed block centre → ⊥) × (Dim black block centre → ⊥))
       × ((Unsurveyed block centre → ⊥) → (Dim black block centre → ⊥) → s.number ≡ 0)
   unfolding judged_shade
@@ -140,13 +142,13 @@ module _ {black limit : ℕ} {block centre : Tint} where
   told_none (ten s d) = (λ e. absurd (omega arith), λ f g. absurd (g d))
   told_none (judged s l) = (λ e. (not_surveyed s, not_lit l), λ f g. refl)
 
-  pub told_one : {s : Shade} → Told black limit block centre s → (s.number ≡ 0) ⊎ (s.number ≡ 7) ⊎ (s.number ≡ 10)
+  pub told_one : {s : Written} → Told black limit block centre s → (s.number ≡ 0) ⊎ (s.number ≡ 7) ⊎ (s.number ≡ 10)
   unfolding judged_shade
   told_one (seven u) = inr (inl refl)
   told_one (ten s d) = inr (inr refl)
   told_one (judged s l) = inl refl
 
-  pub told_zeros : {s : Shade} → Told black limit block centre s → (s.number ≡ 0 → ⊥) → (s.numerator ≡ 0) × (s.denominator ≡ 0) × (s.fail ≡ 0)
+  pub told_zeros : {s : Written} → Told black limit block centre s → (s.number ≡ 0 → ⊥) → (s.numerator ≡ 0) × (s.denominator ≡ 0) × (s.fail ≡ 0)
   unfolding judged_shade
   told_zeros (seven u) f = (refl, refl, refl)
   told_zeros (ten s d) f = (refl, refl, refl)
@@ -154,7 +156,7 @@ module _ {black limit : ℕ} {block centre : Tint} where
 
 -- ---- what is judged
 -- with a/b in the block and c/d at the centre, all four signed: |a × d − c × b| over c × b itself, which is above 0
-pub record Measured (limit : ℕ) (a b c d : ℤ) (s : Shade) : Type 0 where
+pub record Measured (limit : ℕ) (a b c d : ℤ) (s : Written) : Type 0 where
   pub number : s.number ≡ 0
   pub numerator : s.numerator ≡ nat_abs (a *ℤ d -ℤ c *ℤ b)
   pub denominator : pos s.denominator ≡ c *ℤ b
@@ -168,7 +170,7 @@ times black shown n = (shown.total ⊖ black * shown.count) *ℤ pos n
 
 -- so the numbers that are judged
 module _ {black limit : ℕ} {block centre : Tint} where
-  pub measured : {s : Shade} → Told black limit block centre s → s.number ≡ 0
+  pub measured : {s : Written} → Told black limit block centre s → s.number ≡ 0
       → Measured limit
       (times black block.colour block.green.count)
       (times black block.green block.colour.count)
@@ -249,24 +251,24 @@ module _ (black s g : ℕ) (block centre : Tint) (of-colour : Even s block.colou
       down : (m n : ℕ) → nat_abs ((g * m ⊖ black * m) *ℤ pos n) ≡ nat_abs (g ⊖ black) * (n * m)
       down m n = ap nat_abs (even_times black g m n) ∙ size_times (g ⊖ black) (m * n) ∙ ap (λ (k : ℕ). nat_abs (g ⊖ black) * k) (mul_comm m n)
 
-  pub flat_shade : (limit : ℕ) → (shade_of black limit block centre).numerator ≡ 0
+  pub flat_shade : (limit : ℕ) → (written_of (shade_of black limit block centre)).numerator ≡ 0
   unfolding judged_shade
   flat_shade limit = by (told block centre black limit)
     where
-      by : {s : Shade} → Told black limit block centre s → s.numerator ≡ 0
+      by : {s : Written} → Told black limit block centre s → s.numerator ≡ 0
       by (seven _) = refl
       by (ten _ _) = refl
       by (judged _ _) = flat
 
 -- ---- the limit
 -- of a block and ratio at two limits: the numbers are the same, and it passes at the second where it does at the first
-pub record Eased (first second : Shade) : Type 0 where
+pub record Eased (first second : Written) : Type 0 where
   pub number : first.number ≡ second.number
   pub numerator : first.numerator ≡ second.numerator
   pub denominator : first.denominator ≡ second.denominator
   pub fail : first.fail ≡ 0 → second.fail ≡ 0
 
-pub eased : (black low high : ℕ) (block centre : Tint) → low ≤ high → Eased (shade_of black low block centre) (shade_of black high block centre)
+pub eased : (black low high : ℕ) (block centre : Tint) → low ≤ high → Eased (written_of (shade_of black low block centre)) (written_of (shade_of black high block centre))
 unfolding shade_of judged_shade fails
 eased black low high block centre l = by (too_few block centre) (too_dark black block centre)
   where
@@ -282,8 +284,8 @@ eased black low high block centre l = by (too_few block centre) (too_dark black 
 
     by : (few dark : Bool)
         → Eased
-        (cond few (refused_shade 7) (cond dark (refused_shade 10) (judged_shade low (ratio_in black block) (ratio_in black centre))))
-        (cond few (refused_shade 7) (cond dark (refused_shade 10) (judged_shade high (ratio_in black block) (ratio_in black centre))))
+        (written_of (refuse_if TooFew few ⨟ refuse_if TooDark dark ⨟ Ok (judged_shade low (ratio_in black block) (ratio_in black centre))))
+        (written_of (refuse_if TooFew few ⨟ refuse_if TooDark dark ⨟ Ok (judged_shade high (ratio_in black block) (ratio_in black centre))))
     by true dark = record { number = refl; numerator = refl; denominator = refl; fail = λ e. e }
     by false true = record { number = refl; numerator = refl; denominator = refl; fail = λ e. e }
     by false false = record {
@@ -347,16 +349,16 @@ module _ {m n : ℕ} {block centre : Ratio} (of-block : Small m block) (of-centr
       (add-le-add (rw (size_times block.numerator centre.denominator) (mul-le-mul of-block.up of-centre.down)) base_most)
 
 -- 16 times either number fits 64 bits
-pub record Fits (s : Shade) : Type 0 where
+pub record Fits (s : Written) : Type 0 where
   pub numerator : s.numerator < 2 ^ 60
   pub denominator : s.denominator < 2 ^ 60
 
 pub fits : (black limit : ℕ) (block centre : Tint) → black ≤ 4095
-    → Possible 192 block → Possible 768 centre → Fits (shade_of black limit block centre)
+    → Possible 192 block → Possible 768 centre → Fits (written_of (shade_of black limit block centre))
 unfolding judged_shade
 fits black limit block centre dark in_block at_centre = by (told block centre black limit)
   where
-    by : {s : Shade} → Told black limit block centre s → Fits s
+    by : {s : Written} → Told black limit block centre s → Fits s
     by (seven _) = record { numerator = omega arith; denominator = omega arith }
     by (ten _ _) = record { numerator = omega arith; denominator = omega arith }
     by (judged _ _) =

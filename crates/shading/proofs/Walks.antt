@@ -4,7 +4,7 @@ use mathlib.Core.Bool.{Bool, false, ◌||◌}
 use mathlib.Core.List.{List}
 use mathlib.Core.Logic.{⊎_elim}
 use mathlib.Core.Path.{◌≡◌, refl, sym, ap, ◌∙◌}
-use native.Mathlib.Nat.{le_trans, zero-mul, one-mul, mod-eq_of_lt}
+use native.Mathlib.Nat.{le_trans, add-mul, zero-mul, one-mul, mod-eq_of_lt}
 use native.Mathlib.Omega.{arith}
 use lib.Arith.{digits_mod}
 use lib.ListN.{length}
@@ -21,8 +21,8 @@ use Rattle.shading.specs.Shade.{tint}
 use Rattle.shading.specs.Judge.{impossible, impossible_at, impossible_in, tint_of, shade_in, shade_at, shades_of}
 use Rattle.shading.specs.Walk.{Whole, Possible, Stored}
 use Rattle.shading.specs.declared.Asked.{Asked}
-use Rattle.shading.specs.declared.Planes.{Planes}
-use Rattle.shading.specs.declared.Shade.{Shade}
+use Rattle.shading.specs.OfRatio.{Planes}
+use Rattle.shading.specs.Shade.{Written}
 use Rattle.shading.proofs.Entries.{InFour, shade_at_lem, entry_possible, tint-possible}
 
 -- the area of the next entry: one more, or the first again
@@ -36,7 +36,7 @@ first_area k areas l g =
     sym (ap (λ (x : ℕ). x % areas) (sym all) ∙ digits_mod 1 some)
 
 -- what a walk of one ratio's blocks has stored at its end
-pub half_stored : {part : Shade → ℕ} {given : Asked} {totals counts d l : List ℕ} {ratio blocks first k : ℕ}
+pub half_stored : {part : Written → ℕ} {given : Asked} {totals counts d l : List ℕ} {ratio blocks first k : ℕ}
     → first ≡ ratio * blocks → blocks ≡ blocks_of given.width given.height → k ≡ blocks
     → Storing (λ (i : ℕ). part (shade_in given totals counts ratio i)) d l first k → Stored part given totals counts ratio d l
 half_stored {part} {given} {totals} {counts} {d} {l} {ratio} {blocks} {first} {k} f b e s =
@@ -47,22 +47,37 @@ half_stored {part} {given} {totals} {counts} {d} {l} {ratio} {blocks} {first} {k
       stored = λ i low. rw (← at) (s.stored i (omega (arith, b, e)));
     }
 
--- both halves of a buffer are all of it
-pub both_halves : (part : Shade → ℕ) (given : Asked) (totals counts lent first second : List ℕ) → length lent ≡ 2 * blocks_of given.width given.height
-    → Stored part given totals counts 0 lent first → Stored part given totals counts 1 first second → second ≡ shades_of part given totals counts
-both_halves part given totals counts lent first second long r b =
-    tabulated (2 * blocks) (λ (j : ℕ). part (shade_at given totals counts j)) second (b.long ∙ r.long ∙ long)
-    (λ j l. ⊎_elim
-    (λ low. b.kept j (omega (arith, one-mul blocks)) ∙ at 0 j j low (omega (arith, zero-mul blocks)) first (r.stored j low))
-    (λ high. at 1 (j - blocks) j (omega arith) (omega (arith, one-mul blocks)) second (b.stored (j - blocks) (omega arith)))
-    (lt_or_ge j blocks))
-  where
-    blocks : ℕ
-    blocks = blocks_of given.width given.height
+-- A buffer that was d and is l now, in a loop that stores one ratio's half after the other: the next is this ratio's.
+pub record Filled (part : Written → ℕ) (given : Asked) (totals counts : List ℕ) (d l : List ℕ) (ratio : ℕ) : Type 0 where
+  pub long : length l ≡ length d
+  pub filled : (j : ℕ) → j < ratio * blocks_of given.width given.height → held l j ≡ part (shade_at given totals counts j)
 
-    at : (ratio k j : ℕ) → k < blocks → ratio * blocks + k ≡ j → (l : List ℕ) → held l (ratio * blocks + k) ≡ part (shade_in given totals counts ratio k)
-        → held l j ≡ part (shade_at given totals counts j)
-    at ratio k j below is l e = rw (← is) (e ∙ sym (ap part (shade_at_lem given totals counts ratio k below)))
+-- where the loop begins
+pub filled_none : (part : Written → ℕ) (given : Asked) (totals counts d : List ℕ) → Filled part given totals counts d d 0
+filled_none part given totals counts d = record { long = refl; filled = λ j low. absurd (omega (arith, zero-mul (blocks_of given.width given.height))) }
+
+module _ {part : Written → ℕ} {given : Asked} {totals counts d l : List ℕ} {ratio : ℕ} (f : Filled part given totals counts d l ratio) where
+  blocks : ℕ
+  blocks = blocks_of given.width given.height
+
+  -- a turn of it
+  pub filled_more : {next : List ℕ} → Stored part given totals counts ratio l next → Filled part given totals counts d next (ratio + 1)
+  unfolding blocks
+  filled_more {next} s = record {
+    long = s.long ∙ f.long;
+    filled = λ j low. ⊎_elim (λ old. s.kept j old ∙ f.filled j old)
+        (λ new. at (j - ratio * blocks) j (omega (arith, add-mul ratio 1 blocks, one-mul blocks)) (omega arith))
+        (lt_or_ge j (ratio * blocks));
+  }
+    where
+      at : (k j : ℕ) → k < blocks → ratio * blocks + k ≡ j → held next j ≡ part (shade_at given totals counts j)
+      at k j below is = rw (← is) (s.stored k below ∙ sym (ap part (shade_at_lem given totals counts ratio k below)))
+
+  -- its end: both halves of a buffer are all of it
+  pub filled_done : ratio ≡ 2 → length d ≡ 2 * blocks_of given.width given.height → l ≡ shades_of part given totals counts
+  filled_done e long =
+      tabulated (2 * blocks_of given.width given.height) (λ (j : ℕ). part (shade_at given totals counts j)) l (f.long ∙ long)
+      (λ j low. f.filled j (rw e low))
 
 module _ (w h : ℕ) where
   -- 11 of one entry more: where the walk begins, a turn, and its end

@@ -1,24 +1,21 @@
 -- Document 02 j: what `shading_judge` answers and leaves in the four lent buffers.
-use Rattle.std.specs.Prelude.{ℕ, ◌*◌, ◌/◌, ◌%◌, Bool, cond, ◌||◌, List, eqb, ltb, length}
+use Rattle.std.specs.Prelude.{ℕ, ◌*◌, ◌/◌, ◌%◌, Bool, cond, ◌||◌, List, eqb, ltb, length, Result}
 use Rattle.laws.specs.First.{some_to}
 use Rattle.laws.specs.Table.{held, tabulate}
-use Rattle.verdict.specs.Verdict.{◌⨟◌, refuse_if, if_clear}
-use Rattle.verdict.specs.Answer.{answer_of, Paper, accepted_paper, refused_paper, paper_for, Nothing, nothing}
-use Rattle.verdict.specs.declared.Verdict.{Verdict}
+use Rattle.verdict.specs.Verdict.{Verdict, ◌⨟◌, refuse_if, if_clear}
+use Rattle.verdict.specs.Answer.{answer_of, Paper, answer_paper, paper_for, Nothing, nothing}
+use Rattle.verdict.specs.declared.Refusal.{Refusal}
+use Rattle.verdict.specs.declared.Refusal.TheVariants.{Parameter, Length, TooSmall, Impossible}
 use Rattle.refusals.specs.Judge.{shape_of, other_than}
 use Rattle.plane.specs.Plane.{sums}
 use Rattle.plane.specs.declared.Sums.{Sums}
 use Rattle.colour.specs.Bayer.{mosaic_of}
 use Rattle.colour.specs.Centre.{too_small}
 use Rattle.blocks.specs.Areas.{blocks_of, area_sites, entries_of, entry_at, entry_area, table_lengths}
-use Rattle.shading.specs.Shade.{tint, shade_of}
+use Rattle.shading.specs.Shade.{tint, shade_of, Written, written_of}
 use Rattle.shading.specs.declared.Asked.{Asked}
 use Rattle.shading.specs.declared.Lengths.{Lengths}
-use Rattle.shading.specs.declared.Judged.{Judged}
-use Rattle.shading.specs.declared.Judged.TheVariants.{Done, Refused}
-use Rattle.shading.specs.declared.Planes.{Planes}
-use Rattle.shading.specs.declared.Tint.{Tint}
-use Rattle.shading.specs.declared.Shade.{Shade}
+use Rattle.shading.specs.OfRatio.{Planes, Tint}
 
 -- the numbers that are handed in with a table
 abbrev pub asked : ℕ → ℕ → ℕ → ℕ → ℕ → ℕ → Asked
@@ -37,11 +34,11 @@ bad_limit limit = eqb limit 0 || ltb 16 limit
 -- 3: a black level above full scale, an order above 3, or such a limit
 abbrev pub asked_verdict : ℕ → ℕ → ℕ → ℕ → Verdict
 asked_verdict full black order limit =
-    refuse_if 3 0 (ltb full black) ⨟ refuse_if 3 0 (ltb 3 order) ⨟ refuse_if 3 0 (bad_limit limit)
+    refuse_if Parameter (ltb full black) ⨟ refuse_if Parameter (ltb 3 order) ⨟ refuse_if Parameter (bad_limit limit)
 
 -- 4: a buffer has not an element for each block of R/Gr, and then for each of B/Gb
 abbrev pub blocks_length : ℕ → ℕ → ℕ → Verdict
-blocks_length w h long = refuse_if 4 0 (other_than (2 * blocks_of w h) long)
+blocks_length w h long = refuse_if Length (other_than (2 * blocks_of w h) long)
 
 -- of the four buffers that are written
 abbrev pub lengths_verdict : ℕ → ℕ → Lengths → Verdict
@@ -70,13 +67,13 @@ lent_verdict given long totals counts =
     ⨟ asked_verdict given.full given.black given.order given.limit
     ⨟ table_lengths given.width given.height totals counts
     ⨟ lengths_verdict given.width given.height long
-    ⨟ refuse_if 9 0 (too_small given.width given.height)
+    ⨟ refuse_if TooSmall (too_small given.width given.height)
 
 -- and 11, before 7 and 10 of any block
 unfoldable pub judge_verdict : Asked → Lengths → List ℕ → List ℕ → Verdict
 judge_verdict given long totals counts =
     lent_verdict given long (length totals) (length counts)
-    ⨟ refuse_if 11 0 (impossible_in given.width given.height given.full totals counts)
+    ⨟ refuse_if Impossible (impossible_in given.width given.height given.full totals counts)
 
 -- the two planes of a ratio: 0 is R over Gr, 1 is B over Gb
 abbrev pub planes : ℕ → ℕ → Planes
@@ -94,49 +91,48 @@ unfoldable pub tint_of : ℕ → ℕ → List ℕ → List ℕ → Planes → �
 tint_of w h totals counts of k =
     tint (entry_of w h totals counts of.colour k) (entry_of w h totals counts of.green k)
 
--- block k of a ratio beside the centre of the same two planes
-unfoldable pub shade_in : Asked → List ℕ → List ℕ → ℕ → ℕ → Shade
+-- what is written of block k of a ratio, beside the centre of the same two planes
+unfoldable pub shade_in : Asked → List ℕ → List ℕ → ℕ → ℕ → Written
 shade_in given totals counts ratio k =
     let area = tint_of given.width given.height totals counts (planes_of given.order ratio) in
-    shade_of given.black given.limit (area k) (area (blocks_of given.width given.height))
+    written_of (shade_of given.black given.limit (area k) (area (blocks_of given.width given.height)))
 
 -- at place j of the written buffers: all blocks of R/Gr, and then all of B/Gb
-abbrev pub shade_at : Asked → List ℕ → List ℕ → ℕ → Shade
+abbrev pub shade_at : Asked → List ℕ → List ℕ → ℕ → Written
 shade_at given totals counts j =
     shade_in given totals counts (j / blocks_of given.width given.height) (j % blocks_of given.width given.height)
 
 -- the answer: done, or the refusal
-unfoldable pub judge_answer : Asked → Lengths → List ℕ → List ℕ → Judged
-judge_answer given long totals counts = answer_of (judge_verdict given long totals counts) Done Refused
+unfoldable pub judge_answer : Asked → Lengths → List ℕ → List ℕ → Result Nothing Refusal
+judge_answer given long totals counts = answer_of (judge_verdict given long totals counts) nothing
 
 -- the paper's numbers of an answer
-abbrev pub paper_of : Judged → Paper Nothing
-paper_of Done = accepted_paper nothing
-paper_of (Refused r) = refused_paper r nothing
+abbrev pub paper_of : Result Nothing Refusal → Paper Nothing
+paper_of = answer_paper nothing
 
 -- the paper's numbers for all inputs
 unfoldable pub judge_paper : Asked → Lengths → List ℕ → List ℕ → Paper Nothing
 judge_paper given long totals counts = paper_for (judge_verdict given long totals counts) nothing nothing
 
 -- one part of every shade
-abbrev pub shades_of : (Shade → ℕ) → Asked → List ℕ → List ℕ → List ℕ
+abbrev pub shades_of : (Written → ℕ) → Asked → List ℕ → List ℕ → List ℕ
 shades_of part given totals counts =
     tabulate (2 * blocks_of given.width given.height) (λ (j : ℕ). part (shade_at given totals counts j))
 
 -- the buffer of that part afterwards; or all as it was
-unfoldable pub judge_buffer : (Shade → ℕ) → Asked → Lengths → List ℕ → List ℕ → List ℕ → List ℕ
+unfoldable pub judge_buffer : (Written → ℕ) → Asked → Lengths → List ℕ → List ℕ → List ℕ → List ℕ
 judge_buffer part given long totals counts buffer =
     if_clear (judge_verdict given long totals counts) (shades_of part given totals counts) buffer
 
 -- the four of them
 abbrev pub judge_numerators : Asked → Lengths → List ℕ → List ℕ → List ℕ → List ℕ
-judge_numerators = judge_buffer (λ (s : Shade). s.numerator)
+judge_numerators = judge_buffer (λ (s : Written). s.numerator)
 
 abbrev pub judge_denominators : Asked → Lengths → List ℕ → List ℕ → List ℕ → List ℕ
-judge_denominators = judge_buffer (λ (s : Shade). s.denominator)
+judge_denominators = judge_buffer (λ (s : Written). s.denominator)
 
 abbrev pub judge_refusals : Asked → Lengths → List ℕ → List ℕ → List ℕ → List ℕ
-judge_refusals = judge_buffer (λ (s : Shade). s.number)
+judge_refusals = judge_buffer (λ (s : Written). s.number)
 
 abbrev pub judge_fails : Asked → Lengths → List ℕ → List ℕ → List ℕ → List ℕ
-judge_fails = judge_buffer (λ (s : Shade). s.fail)
+judge_fails = judge_buffer (λ (s : Written). s.fail)

@@ -1,3 +1,4 @@
+pub mod OfRatio
 pub mod Shade
 pub mod Judge
 pub mod Walk

@@ -1,9 +1,13 @@
 -- Document 02 j: how far a block's ratio is off the centre's, and where it is refused.
-use Rattle.std.specs.Prelude.{ℕ, ◌*◌, Bool, cond, ◌||◌, eqb, ltb, ℤ, pos, nat_abs, ◌*ℤ◌, ◌-ℤ◌}
+use Rattle.std.specs.Prelude.{ℕ, ◌*◌, Bool, false, cond, ◌||◌, eqb, ltb, Result, Ok, ℤ, pos, nat_abs, ◌*ℤ◌, ◌-ℤ◌}
+use Rattle.std.specs.Result.{result_unwrap_or}
+use Rattle.verdict.specs.Verdict.{◌⨟◌, refuse_if, number_of}
+use Rattle.verdict.specs.declared.Refusal.{Refusal}
+use Rattle.verdict.specs.declared.Refusal.TheVariants.{TooFew, TooDark}
 use Rattle.plane.specs.declared.Sums.{Sums}
 use Rattle.colour.specs.Colour.{above_black, not_above, ratio_of}
 use Rattle.colour.specs.declared.Ratio.{Ratio}
-use Rattle.shading.specs.declared.Tint.{Tint}
+use Rattle.shading.specs.OfRatio.{Tint}
 use Rattle.shading.specs.declared.Shade.{Shade}
 
 -- what is seen in one area of a ratio's two planes: of R and Gr, or of B and Gb
@@ -39,24 +43,36 @@ offset block centre = block.numerator *ℤ pos centre.denominator -ℤ base bloc
 unfoldable pub fails : ℕ → ℕ → ℕ → Bool
 fails limit numerator denominator = ltb (limit * denominator) (16 * numerator)
 
-abbrev pub shade : ℕ → ℕ → ℕ → ℕ → Shade
-shade number numerator denominator fail =
-    record { number = number; numerator = numerator; denominator = denominator; fail = fail }
-
--- a block and ratio that is refused: every other number is 0, and it does not fail
-abbrev pub refused_shade : ℕ → Shade
-refused_shade number = shade number 0 0 0
+abbrev pub shade : ℕ → ℕ → Bool → Shade
+shade numerator denominator fail =
+    record { numerator = numerator; denominator = denominator; fail = fail }
 
 -- one that is judged; after 10 b, c and d are above 0, so the size of c × b is c × b itself
 unfoldable pub judged_shade : ℕ → Ratio → Ratio → Shade
 judged_shade limit block centre =
     let numerator = nat_abs (offset block centre) in
     let denominator = nat_abs (base block centre) in
-    shade 0 numerator denominator (cond (fails limit numerator denominator) 1 0)
+    shade numerator denominator (fails limit numerator denominator)
 
 -- by what is seen in the block and at the centre: 7, then 10
-unfoldable pub shade_of : ℕ → ℕ → Tint → Tint → Shade
+unfoldable pub shade_of : ℕ → ℕ → Tint → Tint → Result Shade Refusal
 shade_of black limit block centre =
-    cond (too_few block centre) (refused_shade 7)
-    (cond (too_dark black block centre) (refused_shade 10)
-    (judged_shade limit (ratio_in black block) (ratio_in black centre)))
+    refuse_if TooFew (too_few block centre)
+    ⨟ refuse_if TooDark (too_dark black block centre)
+    ⨟ Ok (judged_shade limit (ratio_in black block) (ratio_in black centre))
+
+-- the four numbers that are written of a block and ratio
+pub record Written : Type 0 where
+  pub number : ℕ
+  pub numerator : ℕ
+  pub denominator : ℕ
+  pub fail : ℕ
+
+abbrev pub no_shade : Shade
+no_shade = shade 0 0 false
+
+-- 0 and its figures, with 1 where it fails, else 0; of one that is refused the refusal's number, and every other number 0
+abbrev pub written_of : Result Shade Refusal → Written
+written_of told =
+    let s = result_unwrap_or told no_shade in
+    record { number = number_of told; numerator = s.numerator; denominator = s.denominator; fail = cond s.fail 1 0 }

@@ -4,8 +4,8 @@ use Rattle.laws.specs.Table.{held}
 use Rattle.blocks.specs.Areas.{blocks_of, entries_of}
 use Rattle.shading.specs.Judge.{impossible_in, shade_in}
 use Rattle.shading.specs.declared.Asked.{Asked}
-use Rattle.shading.specs.declared.Shade.{Shade}
-use Rattle.shading.specs.declared.Tint.{Tint}
+use Rattle.shading.specs.Shade.{Written}
+use Rattle.shading.specs.OfRatio.{Tint}
 
 -- a table that 4 and 11 let pass, and a full scale that 2 does
 abbrev pub Whole : Asked → List ℕ → List ℕ → Type 0
@@ -21,7 +21,7 @@ Possible sites area =
     × (area.green.count ≤ sites) × (area.green.total ≤ 4095 * sites)
 
 -- a buffer in which one part of every shade of a ratio is stored, all before them being as it was
-pub record Stored (part : Shade → ℕ) (given : Asked) (totals counts : List ℕ) (ratio : ℕ) (before after : List ℕ) : Type 0 where
+pub record Stored (part : Written → ℕ) (given : Asked) (totals counts : List ℕ) (ratio : ℕ) (before after : List ℕ) : Type 0 where
   pub long : length after ≡ length before
   pub kept : (j : ℕ) → j < ratio * blocks_of given.width given.height → held after j ≡ held before j
   pub stored : (k : ℕ) → k < blocks_of given.width given.height

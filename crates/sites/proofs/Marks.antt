@@ -3,38 +3,29 @@ use Prim.Native.Nat.{ℕ, ◌+◌, ◌-◌, ◌*◌, ◌/◌, ◌<◌, ◌≤◌
 use mathlib.Core.List.{List}
 use mathlib.Core.Logic.{⊎_elim}
 use mathlib.Core.Path.{◌≡◌, sym, ap, ap₂, ◌∙◌}
-use native.Mathlib.Nat.{add-mul, mul_assoc, mul_comm, mul-le-mul_right, zero-mul, not-suc-le-zero}
+use native.Mathlib.Nat.{add-mul, zero-mul, not-suc-le-zero}
 use native.Mathlib.Omega.{arith}
 use lib.ListN.{length}
 use Rattle.laws.specs.Sum.{sum_to}
 use Rattle.laws.specs.Table.{held, tabulate}
-use Rattle.laws.proofs.Cases.{lt_or_ge, row_end}
+use Rattle.laws.proofs.Cases.{lt_or_ge}
 use Rattle.laws.proofs.Sums.{sum_none, sum_ext, sum_split}
 use Rattle.laws.proofs.Tables.{tabulated}
 use Rattle.window.specs.Shape.{sites_of}
 use Rattle.window.specs.View.{one, seen}
+use Rattle.window.specs.declared.View.{View}
 use Rattle.window.proofs.Sides.{Sides}
 use Rattle.near.specs.Near.{near_sum}
 use Rattle.sites.specs.Find.{found_at, marked_at, found_count}
-use Rattle.sites.specs.Walk.{Totals, along_row, between, RowMarked}
-use Rattle.sites.proofs.Totals.{near_totals}
-use Rattle.sites.proofs.Finds.{along_found, along_marked}
+use Rattle.sites.specs.Walk.{Down, Totals, along_row, AlongRow, between, MarkedBy, RowMarked}
+use Rattle.sites.specs.declared.ColumnTotals.{ColumnTotals}
+use Rattle.sites.specs.declared.RowTotals.{RowTotals}
+use Rattle.sites.proofs.Totals.{told-between, near_totals}
+use Rattle.sites.proofs.Finds.{same_row, along_found, along_marked}
 
--- a buffer with the window's sites has its pairs of rows, and each row
-module _ (w h n : ℕ) (legal : Sides w h) (whole : n ≡ sites_of w h) where
-  pub pairs_in : (top b m : ℕ) → m ≡ sites_of w h → top ≤ b → b ≤ h / 2
-      → (w ≤ 128) × (top ≤ b) × (b ≤ 64) × (2 * w * b ≤ n) × (m ≡ n)
-  pairs_in top b m also farther few =
-      let rows : 2 * b ≤ h = omega arith in (
-        legal.wide.high,
-        farther,
-        omega (arith, legal.high.high),
-        omega (arith, whole, legal.sites, mul-le-mul_right w rows, mul_assoc 2 w b, mul_comm w b, mul_assoc 2 b w),
-        also ∙ sym whole,
-      )
-
-  pub row_in : (y : ℕ) → y < h → y * w + w ≤ n
-  row_in y low = omega (arith, whole, legal.sites, row_end y h w low)
+-- lists of totals down the columns, of how many sites are surveyed and of their samples
+abbrev BothDown : ℕ → List ℕ → List ℕ → ℕ → List ℕ → List ℕ → Type 0
+BothDown w mask frame b counts totals = Down w (one mask) b counts × Down w (seen mask frame) b totals
 
 module _ (w h t : ℕ) (mask frame : List ℕ) where
   -- the first n sites are marked
@@ -55,7 +46,7 @@ module _ (w h t : ℕ) (mask frame : List ℕ) where
       (m.counted ∙ rw n, tabulated (sites_of w h) _ out long (λ k l. m.written k (rw n l)))
 
   module _ (y a b : ℕ) (ca ta cb tb : List ℕ) (low : y < h) (first : a ≡ y / 2 - 15) (end : b ≡ min (y / 2 + 15 + 1) (h / 2))
-      (above : Totals w mask frame a ca ta) (below : Totals w mask frame b cb tb) where
+      (above : BothDown w mask frame a ca ta) (below : BothDown w mask frame b cb tb) where
     abbrev counts : ℕ → ℕ
     counts = along_row w ca cb y
 
@@ -63,12 +54,12 @@ module _ (w h t : ℕ) (mask frame : List ℕ) where
     totals = along_row w ta tb y
 
     counts_near : (x : ℕ) → x < w → between w counts x ≡ near_sum 15 w h (one mask) (y * w + x)
-    counts_near x inside = near_totals w h y x (one mask) ca cb (rw (← first) above.counted) (rw (← end) below.counted) low inside
+    counts_near x inside = near_totals w h y x (one mask) ca cb (rw (← first) above.0) (rw (← end) below.0) low inside
 
     totals_near : (x : ℕ) → x < w → between w totals x ≡ near_sum 15 w h (seen mask frame) (y * w + x)
-    totals_near x inside = near_totals w h y x (seen mask frame) ta tb (rw (← first) above.added) (rw (← end) below.added) low inside
+    totals_near x inside = near_totals w h y x (seen mask frame) ta tb (rw (← first) above.1) (rw (← end) below.1) low inside
 
-    pub marked_row : (out out' : List ℕ) (found r : ℕ) → Marked (y * w) out found → RowMarked w t mask frame counts totals y r out out'
+    pub marked_row : (out out' : List ℕ) (found r : ℕ) → Marked (y * w) out found → MarkedBy w t mask frame counts totals y r out out'
         → Marked ((y + 1) * w) out' (found + r)
     marked_row out out' found r m row =
         let n : (y + 1) * w ≡ y * w + w = omega (arith, add-mul y 1 w) in
@@ -88,3 +79,14 @@ module _ (w h t : ℕ) (mask frame : List ℕ) where
               ∙ sym (sum_split (y * w) w _);
           few = omega (arith, m.few, row.few);
         })
+
+-- so of a view, by totals along the row that lists hold
+module _ (v : View) (t y : ℕ) (a b : ColumnTotals) (along : RowTotals) (low : y < v.height) (first : a.pairs ≡ y / 2 - 15) (end : b.pairs ≡ min (y / 2 + 15 + 1) (v.height / 2))
+    (above : Totals v a) (below : Totals v b) (taken : AlongRow v.width a b y along) where
+  pub row_marked : (out out' : List ℕ) (found r : ℕ) → Marked v.width v.height t v.mask.now v.frame.now (y * v.width) out found → RowMarked v t along y r out out'
+      → Marked v.width v.height t v.mask.now v.frame.now ((y + 1) * v.width) out' (found + r)
+  row_marked out out' found r m row =
+      marked_row v.width v.height t v.mask.now v.frame.now y a.pairs b.pairs a.counts a.totals b.counts b.totals low first end
+      (above.counted, above.added) (below.counted, below.added) out out' found r m
+      (same_row v.width t v.mask.now v.frame.now (held along.counts) (held along.totals) (along_row v.width a.counts b.counts y) (along_row v.width a.totals b.totals y) y
+      (told-between taken.0) (told-between taken.1) row)

@@ -11,11 +11,12 @@ use Rattle.laws.specs.Table.{tabulate}
 use Rattle.laws.proofs.Sums.{sum-zero}
 use Rattle.laws.proofs.Tables.{get_d_tabulate}
 use Rattle.laws.proofs.Sole.{Sole, sole}
-use Rattle.verdict.specs.Verdict.{if_clear}
+use Rattle.verdict.specs.Verdict.{clear, if_clear}
 use Rattle.verdict.specs.Answer.{answer_of}
-use Rattle.verdict.specs.declared.Verdict.TheVariants as verdict
 use Rattle.verdict.proofs.Verdicts.{Tabled, RefusesCounting, refuses_counting}
-use Rattle.verdict.proofs.Answers.{counted-told}
+use Rattle.verdict.proofs.Answers.{counted_is_told}
+use Rattle.verdict.specs.declared.Refusal.{Refusal}
+use Rattle.std.specs.Prelude.{Result, Ok}
 use Rattle.window.specs.Shape.{sites_of}
 use Rattle.window.specs.View.{seen_at, seen, above}
 use Rattle.window.proofs.Sides.{sides}
@@ -23,8 +24,6 @@ use Rattle.window.proofs.Views.{Agree, same_view, seen_out}
 use Rattle.refusals.specs.Judge.{frame_verdict}
 use Rattle.refusals.proofs.Ranges.{one_counting}
 use Rattle.sites.specs.Find.{used_threshold, found_at, marked_at, found_count, find_verdict, find_answer, find_paper_of, find_paper, find_mask}
-use Rattle.sites.specs.declared.Defects.{Defects}
-use Rattle.sites.specs.declared.Defects.TheVariants.{Found, Refused}
 use Rattle.sites.proofs.Finds.{far_at, same-found, same-marked}
 use Rattle.sites.proofs.Accepts.{find_tests, find_table, find_accepted, find_clear}
 use Rattle.near.proofs.Turns.{OnlyTurned, turned_count, tied, only_turned, kept, count_tied}
@@ -45,7 +44,7 @@ module _ (w h full t : ℕ) (mask frame out : List ℕ) where
   -- the paper's numbers are those of the answer
   pub paper_is : find_paper_of (find_answer w h full t mask frame (length out)) ≡ find_paper w h full t mask frame (length out)
   unfolding find_answer find_paper
-  paper_is = counted-told find_paper_of (find_verdict w h full t mask frame (length out)) refl (λ r. refl)
+  paper_is = counted_is_told 0 (found_count w h (used_threshold t) mask (seen mask frame)) (find_verdict w h full t mask frame (length out))
 
   -- given: each refusal exactly as document 01 tables it, in that order (`find_tests` has the table)
   pub given : Tabled (find_verdict w h full t mask frame (length out)) (find_tests w h full t mask frame (length out))
@@ -71,8 +70,8 @@ module _ (w h full : ℕ) (mask frame out : List ℕ) where
   zero_is_default = (refl, refl)
 
   -- the answer to a caller who says t, where t stands for `used`: the refusals of t, the count of `used`
-  abbrev pub answer_for : ℕ → ℕ → Defects
-  answer_for t used = answer_of (find_verdict w h full t mask frame (length out)) (Found (found_count w h used mask (seen mask frame))) Refused
+  abbrev pub answer_for : ℕ → ℕ → Result ℕ Refusal
+  answer_for t used = answer_of (find_verdict w h full t mask frame (length out)) (found_count w h used mask (seen mask frame))
 
   -- the mask that this caller is left with
   abbrev pub mask_for : ℕ → ℕ → List ℕ
@@ -89,7 +88,7 @@ module _ (w h full : ℕ) (mask frame out : List ℕ) where
   older_rig = no_default 28 (omega arith)
 
 -- of accepted calls
-module _ (w h full t : ℕ) (mask frame out : List ℕ) (accepted : find_verdict w h full t mask frame (length out) ≡ verdict.Clear) where
+module _ (w h full t : ℕ) (mask frame out : List ℕ) (accepted : find_verdict w h full t mask frame (length out) ≡ clear) where
   written : find_mask w h full t mask frame out ≡ tabulate (sites_of w h) (marked_at w h (used_threshold t) mask (seen mask frame))
   unfolding find_mask
   written = rw accepted
@@ -143,4 +142,4 @@ module _ (w h full t : ℕ) (mask frame out : List ℕ) (accepted : find_verdict
       λ i l. same-marked w h (used_threshold t) m mask (seen m f) (seen mask frame) i (flip down across w h i)
       (code_flip down across w h legal mask frame i l) (found i l) in
       rw (also, accepted)
-      (ap Found (flip_count down across w h legal _ _ found), flip_table down across w h legal _ _ marks)
+      (ap Ok (flip_count down across w h legal _ _ found), flip_table down across w h legal _ _ marks)

@@ -5,17 +5,20 @@ use mathlib.Core.Logic.{⊎_elim}
 use mathlib.Core.Path.{◌≡◌, refl, sym, ap, ap₂, ◌∙◌}
 use native.Mathlib.Nat.{le_trans, mul-le-mul_right, not-suc-le-zero, le_of_suc-le-suc}
 use native.Mathlib.Omega.{arith}
-use lib.ListN.{length, set, replicate, length-replicate, get_or-replicate}
+use lib.ListN.{set, get_or-replicate}
 use Rattle.laws.specs.Sum.{sum_to}
 use Rattle.laws.specs.Table.{held}
 use Rattle.laws.proofs.Cases.{lt_or_ge, row_end}
 use Rattle.laws.proofs.Sums.{sum_more, sum_ext, sum-le, totals_grow, box_totals}
 use Rattle.laws.proofs.Tables.{Storing}
 use Rattle.window.specs.View.{one, seen}
-use Rattle.window.proofs.Views.{one_le, seen_is, seen_le}
+use Rattle.window.specs.declared.View.{View}
+use Rattle.window.proofs.Sides.{sides}
+use Rattle.window.proofs.Views.{one_le}
 use Rattle.near.specs.Near.{near_sum}
 use Rattle.near.proofs.Nears.{near_at}
-use Rattle.sites.specs.Walk.{down_to, Down, Totals, Nested, strip, along_to, along_row, Along, box_first, box_end, Rising, between}
+use Rattle.sites.specs.Walk.{down_to, Down, Totals, no_columns, Nested, NestedColumns, strip, along_to, along_row, Along, box_first, box_end, Rising, between}
+use Rattle.sites.specs.declared.ColumnTotals.{ColumnTotals}
 
 -- down the columns: one pair of rows more, and what they come to
 module _ (w : ℕ) (view : ℕ → ℕ) where
@@ -32,16 +35,14 @@ module _ (w : ℕ) (view : ℕ → ℕ) where
   down_most B b k low = sum-le b B (λ (u : ℕ). view (2 * w * u + k)) (λ u _. low (2 * w * u + k))
 
   -- those that go farther down are no less
-  nested : (a b : ℕ) (above below : List ℕ) → a ≤ b → b ≤ 64 → ((i : ℕ) → view i ≤ 65535) → length above ≡ 256 → length below ≡ 256
-      → Down w view a above → Down w view b below → Nested w above below
+  nested : (a b : ℕ) (above below : List ℕ) → a ≤ b → b ≤ 64 → ((k : ℕ) → k < 2 * w → held below k ≤ b * 65535) → Down w view a above → Down w view b below
+      → Nested w above below
   unfolding down_to
-  nested a b above below farther few low long long' up down =
+  nested a b above below farther few most up down =
       record {
-        long-above = long;
-        long_below = long';
         within = λ k l. (
           rw (up k l, down k l) (totals_grow a b (λ (u : ℕ). view (2 * w * u + k)) farther),
-          rw (down k l) (le_trans (down_most 65535 b k low) (mul-le-mul_right 65535 few)),
+          le_trans (most k l) (mul-le-mul_right 65535 few),
         );
       }
 
@@ -90,7 +91,6 @@ module _ {w : ℕ} {f : ℕ → ℕ} {l : List ℕ} (a : Along w f l) where
   pub rising : Rising w l
   rising =
       record {
-        long = a.long;
         rises = λ x inside. rw (a.told (box_first x) (omega arith), a.told (box_end w x) (omega arith)) (along_rises f w x inside);
       }
 
@@ -107,21 +107,22 @@ begun (x ∷ y ∷ d) (suc zero) low = refl
 begun (x ∷ y ∷ d) (suc (suc j)) low = absurd (not-suc-le-zero (le_of_suc-le-suc (le_of_suc-le-suc low)))
 
 -- totals that go farther down are no less, of counts and of samples
-pub both_nested : (w : ℕ) (mask frame : List ℕ) (a b : ℕ) (ca ta cb tb : List ℕ) → a ≤ b → b ≤ 64 → ((i : ℕ) → held frame i ≤ 65535)
-    → Totals w mask frame a ca ta → Totals w mask frame b cb tb → Nested w ca cb × Nested w ta tb
-both_nested w mask frame a b ca ta cb tb farther few small above below = (
-  nested w (one mask) a b ca cb farther few (λ i. omega (arith, one_le mask i)) above.long_counts below.long_counts above.counted below.counted,
-  nested w (seen mask frame) a b ta tb farther few (λ i. rw seen_is (seen_le (held mask i) (held frame i) 65535 (small i))) above.long_totals below.long_totals above.added below.added,
+pub both_nested : (v : View) (a b : ColumnTotals) → a.pairs ≤ b.pairs → b.pairs ≤ 64 → Totals v a → Totals v b → NestedColumns v.width a b
+both_nested v a b farther few above below = (
+  nested v.width (one v.mask.now) a.pairs b.pairs a.counts b.counts farther few
+      (λ k l. rw (below.counted k l) (down_most v.width (one v.mask.now) 65535 b.pairs k (λ i. omega (arith, one_le v.mask.now i))))
+      above.counted below.counted,
+  nested v.width (seen v.mask.now v.frame.now) a.pairs b.pairs a.totals b.totals farther few below.most above.added below.added,
 )
 
 -- before the first pair of rows all are 0
-pub totals_none : (w : ℕ) (mask frame : List ℕ) → w ≤ 128 → Totals w mask frame 0 (replicate 256 0) (replicate 256 0)
-totals_none w mask frame wide =
+pub totals_none : (v : View) → Totals v no_columns
+totals_none v =
+    let wide = (sides _ _ v.legal).wide.high in
     record {
-      long_counts = length-replicate {A = ℕ} 256 0;
-      long_totals = length-replicate {A = ℕ} 256 0;
-      counted = λ k inside. get_or-replicate {A = ℕ} 256 k 0 0 (omega arith) ∙ down_none w (one mask) k;
-      added = λ k inside. get_or-replicate {A = ℕ} 256 k 0 0 (omega arith) ∙ down_none w (seen mask frame) k;
+      counted = λ k inside. get_or-replicate {A = ℕ} 256 k 0 0 (omega (arith, wide)) ∙ down_none v.width (one v.mask.now) k;
+      added = λ k inside. get_or-replicate {A = ℕ} 256 k 0 0 (omega (arith, wide)) ∙ down_none v.width (seen v.mask.now v.frame.now) k;
+      most = λ k inside. omega (arith, get_or-replicate {A = ℕ} 256 k 0 0 (omega (arith, wide)));
     }
 
 -- either row of a pair lies in it

@@ -1,17 +1,16 @@
 -- Document 01, "Defective sites", as document 02 g amends it: what `find_defects` answers and leaves in the lent mask.
-use Rattle.std.specs.Prelude.{ℕ, ◌*◌, Bool, cond, List, eqb, ltb, leb, length, get_or}
+use Rattle.std.specs.Prelude.{ℕ, ◌*◌, Bool, cond, List, eqb, ltb, leb, length, get_or, Result}
 use Rattle.laws.specs.Signed.{apart}
 use Rattle.laws.specs.Sum.{sum_to}
 use Rattle.laws.specs.Table.{tabulate}
-use Rattle.verdict.specs.Verdict.{refuse_if, if_clear}
-use Rattle.verdict.specs.Answer.{answer_of, CountedPaper, accepted_counted, refused_counted, counted_for}
-use Rattle.verdict.specs.declared.Verdict.{Verdict}
+use Rattle.verdict.specs.Verdict.{Verdict, refuse_if, if_clear}
+use Rattle.verdict.specs.Answer.{answer_of, CountedPaper, answer_counted, counted_for}
+use Rattle.verdict.specs.declared.Refusal.{Refusal}
+use Rattle.verdict.specs.declared.Refusal.TheVariants.{Parameter}
 use Rattle.window.specs.Shape.{sites_of}
 use Rattle.window.specs.View.{defect, seen_at, seen, one}
 use Rattle.refusals.specs.Judge.{length_of, frame_verdict}
 use Rattle.near.specs.Near.{near_sum}
-use Rattle.sites.specs.declared.Defects.{Defects}
-use Rattle.sites.specs.declared.Defects.TheVariants.{Found, Refused}
 
 -- document 02 g: "Threshold 0 shall stand for 24"
 abbrev pub default_threshold : ℕ
@@ -45,17 +44,16 @@ found_count w h t mask view = sum_to (sites_of w h) (found_at w h t mask view)
 -- the refusals in their order, of the mask, the frame and the length of the mask that is written: 1 to 6, 3 of the threshold
 unfoldable pub find_verdict : ℕ → ℕ → ℕ → ℕ → List ℕ → List ℕ → ℕ → Verdict
 find_verdict w h full t mask frame out =
-    frame_verdict w h full (refuse_if 3 0 (ltb 4095 t)) mask frame (length_of w h out)
+    frame_verdict w h full (refuse_if Parameter (ltb 4095 t)) mask frame (length_of w h out)
 
 -- the answer: the count, or the refusal
-unfoldable pub find_answer : ℕ → ℕ → ℕ → ℕ → List ℕ → List ℕ → ℕ → Defects
+unfoldable pub find_answer : ℕ → ℕ → ℕ → ℕ → List ℕ → List ℕ → ℕ → Result ℕ Refusal
 find_answer w h full t mask frame out =
-    answer_of (find_verdict w h full t mask frame out) (Found (found_count w h (used_threshold t) mask (seen mask frame))) Refused
+    answer_of (find_verdict w h full t mask frame out) (found_count w h (used_threshold t) mask (seen mask frame))
 
 -- the paper's numbers of an answer
-abbrev pub find_paper_of : Defects → CountedPaper ℕ
-find_paper_of (Found count) = accepted_counted count
-find_paper_of (Refused r) = refused_counted r 0
+abbrev pub find_paper_of : Result ℕ Refusal → CountedPaper ℕ
+find_paper_of = answer_counted 0
 
 -- the paper's numbers for all inputs
 unfoldable pub find_paper : ℕ → ℕ → ℕ → ℕ → List ℕ → List ℕ → ℕ → CountedPaper ℕ

@@ -11,8 +11,9 @@ use lib.ListN.{length}
 use borrow.Author.Tests.{le-ltb, ltb-false, leb-true, le-leb, eqb-true, eqb-false, eq-eqb, ne_eqb}
 use Rattle.laws.proofs.Cases.{lt_or_ge, neither, and_true, both_ways, true_or_false}
 use Rattle.laws.proofs.Firsts.{first_nowhere, nowhere_first}
-use Rattle.verdict.specs.declared.Verdict.TheVariants.{Clear}
 use Rattle.verdict.proofs.Verdicts.{Test, Tabled, test, tabled, then_clear, clear_then}
+use Rattle.verdict.specs.Verdict.{clear}
+use Rattle.verdict.specs.declared.Refusal.TheVariants.{Length}
 use Rattle.window.specs.Shape.{sites_of}
 use Rattle.window.specs.View.{seen}
 use Rattle.window.proofs.Sides.{scale}
@@ -31,7 +32,7 @@ pub record Lengths (w h : ℕ) (s : Stack) : Type 0 where
 
 -- 4 of a stack's own buffers
 module _ (w h : ℕ) (s : Stack) where
-  pub lengths_clear : stack_lengths w h s ≡ Clear → Lengths w h s
+  pub lengths_clear : stack_lengths w h s ≡ clear → Lengths w h s
   lengths_clear e =
       let a = then_clear _ _ e in
       let b = then_clear _ _ a.1 in
@@ -43,7 +44,7 @@ module _ (w h : ℕ) (s : Stack) where
         of_greatest = length_clear (sites_of w h) (length s.greatest) c.1;
       }
 
-  pub clear_lengths : Lengths w h s → stack_lengths w h s ≡ Clear
+  pub clear_lengths : Lengths w h s → stack_lengths w h s ≡ clear
   clear_lengths l =
       clear_then (clear_length (sites_of w h) (length s.sums) l.of_sums)
       (clear_then (clear_length (sites_of w h) (length s.squares) l.of_squares)
@@ -52,10 +53,10 @@ module _ (w h : ℕ) (s : Stack) where
   -- its tests, in the order of the buffers
   abbrev pub length_tests : List Test
   length_tests =
-      test 4 0 (other_than (sites_of w h) (length s.sums))
-      ∷ test 4 0 (other_than (sites_of w h) (length s.squares))
-      ∷ test 4 0 (other_than (sites_of w h) (length s.least))
-      ∷ test 4 0 (other_than (sites_of w h) (length s.greatest))
+      test Length (other_than (sites_of w h) (length s.sums))
+      ∷ test Length (other_than (sites_of w h) (length s.squares))
+      ∷ test Length (other_than (sites_of w h) (length s.least))
+      ∷ test Length (other_than (sites_of w h) (length s.greatest))
       ∷ []
 
   pub lengths_tabled : Tabled (stack_lengths w h s) length_tests
@@ -257,7 +258,7 @@ module _ (full k s q least greatest : ℕ) where
 
 -- ---- a whole stack
 -- a stack of a whole window can be walked, so 11 is asked of all of it
-pub asked-whole : (w h full : ℕ) (mask : List ℕ) (s : Stack) → Masked w h full mask → s.frames ≤ 100 → stack_lengths w h s ≡ Clear
+pub asked-whole : (w h full : ℕ) (mask : List ℕ) (s : Stack) → Masked w h full mask → s.frames ≤ 100 → stack_lengths w h s ≡ clear
     → found_impossible full mask s ≡ impossible_in (sites_of w h) full mask s
 unfolding found_impossible
 asked-whole w h full mask s m most lent =

@@ -1,19 +1,20 @@
 -- What one turn of 11's walk does, over plain values.
-use Prim.Native.Nat.{ℕ, ◌+◌, ◌*◌, ◌%◌}
+use Prim.Native.Nat.{ℕ, zero, suc, ◌+◌, ◌*◌, ◌≤◌, max}
 use mathlib.Core.Bool.{Bool, true, false, cond, ◌&&◌, ◌||◌}
 use mathlib.Core.List.{List}
 use mathlib.Core.Logic.{◌⊎◌, inl, inr}
 use mathlib.Core.Path.{◌≡◌, refl, sym, ap, ap₂, ◌∙◌}
+use native.Mathlib.Nat.{max-eq_left}
 use native.Mathlib.Omega.{arith}
 use lib.Dec.{leb}
 use lib.ListN.{length, get_or}
-use borrow.Author.Tests.{leb-true}
+use borrow.Author.Tests.{leb-true, ne_eqb}
 use Rattle.laws.proofs.Cases.{true_or_false}
 use Rattle.laws.proofs.Firsts.{some_none, some_more}
-use Rattle.verdict.specs.Verdict.{refuse_with, refuse_if}
-use Rattle.verdict.specs.declared.Verdict.TheVariants.{Clear}
+use Rattle.verdict.specs.Verdict.{clear, refuse_if}
+use Rattle.verdict.specs.declared.Refusal.TheVariants.{Impossible}
 use Rattle.window.specs.View.{surveyed, seen_at, seen}
-use Rattle.stack.specs.State.{Stack, stack_of, impossible, impossible_at, impossible_in}
+use Rattle.stack.specs.State.{Stack, impossible, impossible_at, impossible_in}
 use Rattle.stack.specs.Walk.{readable, top, or_one, beyond, found_impossible}
 use Rattle.stack.proofs.Sites.{is_possible, possible_zeros, by_limits}
 
@@ -27,6 +28,12 @@ asked_seen full k code s q least greatest = by (surveyed code)
     by : (b : Bool) → (b && impossible full k s q least greatest) ≡ impossible full k (cond b s 0) (cond b q 0) (cond b least 0) (cond b greatest 0)
     by true = refl
     by false = sym (is_possible full k 0 0 0 0 (possible_zeros full k))
+
+-- the count, or 1
+pub at_least_one : (k : ℕ) → max k 1 ≡ or_one k
+unfolding or_one
+at_least_one zero = refl
+at_least_one (suc k) = max-eq_left (omega arith) ∙ rw (ne_eqb (suc k) 0 (λ e. omega arith)) refl
 
 module _ (full : ℕ) (mask : List ℕ) (s : Stack) where
   -- a turn of 11's walk
@@ -47,25 +54,22 @@ module _ (full : ℕ) (mask : List ℕ) (s : Stack) where
           ≡ impossible full s.frames (get_or s.sums i 0) (get_or s.squares i 0) (get_or s.least i 0) (get_or s.greatest i 0)
       limited = rw (o, m) (by_limits full s.frames (get_or s.sums i 0) (get_or s.squares i 0) (get_or s.least i 0) (get_or s.greatest i 0))
 
--- 11 by the rest of the count by 128
-module _ (full k : ℕ) (mask sums squares least greatest : List ℕ) where
-  abbrev lent : ℕ → Stack
-  lent frames = stack_of frames sums squares least greatest
-
+-- 11 of a whole stack
+module _ (full : ℕ) (mask : List ℕ) (s : Stack) where
   abbrev Walkable : Bool
-  Walkable = readable (length mask) full (length sums) (length squares) (length least) (length greatest)
+  Walkable = readable (length mask) full (length s.sums) (length s.squares) (length s.least) (length s.greatest)
 
-  -- what the walk by the rest finds is 11, where the count is at most 100
-  pub asked-all : (found : Bool) → Walkable ≡ true → found ≡ impossible_in (length mask) full mask (lent (k % 128)) → (leb k 100 && found) ≡ found_impossible full mask (lent k)
+  -- what the walk finds is heeded where the count is at most 100
+  pub asked-all : (found : Bool) → Walkable ≡ true → (s.frames ≤ 100 → found ≡ impossible_in (length mask) full mask s)
+      → (leb s.frames 100 && found) ≡ found_impossible full mask s
   unfolding found_impossible
-  asked-all found e f = rw (e, f) (by (true_or_false (leb k 100)))
+  asked-all found e f = rw e (by (true_or_false (leb s.frames 100)))
     where
-      by : (leb k 100 ≡ true) ⊎ (leb k 100 ≡ false)
-          → (leb k 100 && impossible_in (length mask) full mask (lent (k % 128))) ≡ (leb k 100 && impossible_in (length mask) full mask (lent k))
-      by (inl t) = let few = leb-true k 100 t in let same : k % 128 ≡ k = omega arith in rw same
+      by : (leb s.frames 100 ≡ true) ⊎ (leb s.frames 100 ≡ false) → (leb s.frames 100 && found) ≡ (leb s.frames 100 && impossible_in (length mask) full mask s)
+      by (inl t) = rw (f (leb-true s.frames 100 t)) refl
       by (inr t) = rw t
 
   -- no other buffers are asked
-  pub not_asked : Walkable ≡ false → Clear ≡ refuse_if 11 0 (found_impossible full mask (lent k))
-  unfolding refuse_with found_impossible
+  pub not_asked : Walkable ≡ false → clear ≡ refuse_if Impossible (found_impossible full mask s)
+  unfolding found_impossible
   not_asked e = rw e

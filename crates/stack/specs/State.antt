@@ -1,8 +1,7 @@
 -- Document 01, "Stack", as document 02 i amends it: what is kept of a stack, and 11 of it, by the papers' tests and no others.
 use Rattle.std.specs.Prelude.{ℕ, ◌*◌, Bool, ◌||◌, ◌&&◌, List, eqb, ltb, length}
 use Rattle.laws.specs.First.{some_to}
-use Rattle.verdict.specs.Verdict.{◌⨟◌}
-use Rattle.verdict.specs.declared.Verdict.{Verdict}
+use Rattle.verdict.specs.Verdict.{Verdict, ◌⨟◌}
 use Rattle.window.specs.View.{seen}
 use Rattle.refusals.specs.Judge.{length_of}
 

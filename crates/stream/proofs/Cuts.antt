@@ -11,14 +11,15 @@ use lib.ListN.{length, get_or, take, length-take}
 use lib.Seq.{get_or-take, length-take-le}
 use borrow.Author.Tests.{lt-ltb, le-ltb}
 use Rattle.laws.proofs.Cases.{lt_or_ge, ltb_iff}
-use Rattle.verdict.specs.Verdict.{refusal, ◌⨟◌, refuse_with, refuse_if}
-use Rattle.verdict.specs.declared.Verdict.TheVariants.{Clear, Refused}
+use Rattle.verdict.specs.Verdict.{clear, refuse_if}
 use Rattle.verdict.proofs.Verdicts.{here, later, passed_head, passed_tail, then_same, then_clear, unless}
+use Rattle.verdict.specs.declared.Refusal.TheVariants.{Sides, TooWide, Cut}
+use Rattle.std.specs.Prelude.{Err}
 use Rattle.window.specs.Shape.{bad_sides, sites_of}
 use Rattle.refusals.specs.Judge.{other_than}
 use Rattle.stream.specs.Fields.{Field, word_at, past, field_at, fields_at, past_all, extra_at}
 use Rattle.stream.specs.Stream.{side_fields, body_fields, wide_sides, faults_of, width_of, height_of, sites_in, stream_verdict}
-use Rattle.stream.proofs.Streams.{Faultless, faultless, narrow, field-inside, end_is}
+use Rattle.stream.proofs.Streams.{Faultless, faultless, narrow, field-inside, end_is, sides_end}
 use Rattle.stream.proofs.Tables.{field_table}
 
 -- ---- a cut past what is looked at
@@ -26,10 +27,6 @@ past_all_lem : (at : ℕ) (fs : List Field) → at ≤ past_all at fs
 unfolding past_all
 past_all_lem at [] = omega arith
 past_all_lem at (f ∷ fs) = omega (arith, past_all_lem (past at f) fs)
-
-sides_end : past_all 0 side_fields ≡ 10
-unfolding past_all
-sides_end = refl
 
 module _ (n : ℕ) (s : List ℕ) where
   short : (a : ℕ) → a ≤ n → ltb (length (take n s)) a ≡ ltb (length s) a
@@ -65,7 +62,7 @@ unfoldable pub start_of : ℕ → ℕ → List Field → ℕ
 start_of k at [] = at
 start_of k at (f ∷ fs) = cond (ltb k (past at f)) at (start_of k (past at f) fs)
 
-module _ (k : ℕ) (s : List ℕ) (at : ℕ) (f : Field) (whole : field_at s at f ≡ Clear) where
+module _ (k : ℕ) (s : List ℕ) (at : ℕ) (f : Field) (whole : field_at s at f ≡ clear) where
   tagged : at < k → other_than f.tag (get_or (take k s) at 0) ≡ false
   tagged q = rw (get_or-take k s at 0 q) (passed_head (passed_tail ((field_table s at f).clear whole)))
 
@@ -74,12 +71,12 @@ module _ (k : ℕ) (s : List ℕ) (at : ℕ) (f : Field) (whole : field_at s at 
       rw (word_seen k s (at + 1) (omega arith))
       (passed_head (passed_tail (passed_tail (passed_tail ((field_table s at f).clear whole)))))
 
-  pub field_cut : at ≤ k → k < past at f → field_at (take k s) at f ≡ Refused (refusal 20 at)
+  pub field_cut : at ≤ k → k < past at f → field_at (take k s) at f ≡ Err (Cut at)
   field_cut l h =
       let inside = field-inside s at f whole in
       let size : length (take k s) ≡ k = length-take-le k s (omega arith) in
       let n = length (take k s) in
-      let told = (field_table (take k s) at f).given (refusal 20 at) in
+      let told = (field_table (take k s) at f).given (Cut at) in
       ⊎_elim
       (λ (q : at ≡ k). told (here (lt-ltb n (at + 1) (omega arith))))
       (λ (q : at < k).
@@ -92,9 +89,9 @@ module _ (k : ℕ) (s : List ℕ) (at : ℕ) (f : Field) (whole : field_at s at 
       (eq-or-lt_of_le l)
 
 -- of fields without a fault, the one that is cut
-pub fields_cut : (k : ℕ) (s : List ℕ) (at : ℕ) (fs : List Field) → fields_at s at fs ≡ Clear → at ≤ k → k < past_all at fs
-    → fields_at (take k s) at fs ≡ Refused (refusal 20 (start_of k at fs))
-unfolding fields_at past_all start_of ◌⨟◌
+pub fields_cut : (k : ℕ) (s : List ℕ) (at : ℕ) (fs : List Field) → fields_at s at fs ≡ clear → at ≤ k → k < past_all at fs
+    → fields_at (take k s) at fs ≡ Err (Cut (start_of k at fs))
+unfolding fields_at past_all start_of
 fields_cut k s at [] e l h = absurd (omega arith)
 fields_cut k s at (f ∷ fs) e l h =
     let both = then_clear (field_at s at f) (fields_at s (past at f) fs) e in
@@ -114,8 +111,8 @@ module _ (n : ℕ) (s : List ℕ) (w h : ℕ) where
   faults_seen l =
       rw (fields_seen n s 0 side_fields (omega (arith, sides_end)))
       (then_same (fields_at s 0 side_fields) (λ _.
-      then_same (refuse_if 1 0 (bad_sides w h)) (λ a.
-      then_same (refuse_if 24 0 (wide_sides w h)) (λ b.
+      then_same (refuse_if Sides (bad_sides w h)) (λ a.
+      then_same (refuse_if TooWide (wide_sides w h)) (λ b.
       let fits = room (unless _ (bad_sides w h) a) (unless _ (wide_sides w h) b) l in
       rw (fields_seen n s 10 (body_fields (sites_of w h)) (omega arith), extra_seen n s (past_all 10 (body_fields (sites_of w h))) fits)))))
 
@@ -132,13 +129,13 @@ module _ (s : List ℕ) (k : ℕ) where
   unfolding start_of
   in_bodies l = rw (le-ltb k 5 (omega arith), le-ltb k 10 l)
 
-  cut_sides : (w h : ℕ) → fields_at s 0 side_fields ≡ Clear → k < 10 → faults_of (take k s) w h ≡ Refused (refusal 20 (cut_field s k))
-  unfolding faults_of ◌⨟◌
+  cut_sides : (w h : ℕ) → fields_at s 0 side_fields ≡ clear → k < 10 → faults_of (take k s) w h ≡ Err (Cut (cut_field s k))
+  unfolding faults_of
   cut_sides w h whole l = rw (fields_cut k s 0 side_fields whole (omega arith) (omega (arith, sides_end)), in_sides l)
 
   cut_bodies : Faultless s (width_of s) (height_of s) → 10 ≤ k → k < length s
-      → faults_of (take k s) (width_of s) (height_of s) ≡ Refused (refusal 20 (cut_field s k))
-  unfolding faults_of ◌⨟◌ refuse_with
+      → faults_of (take k s) (width_of s) (height_of s) ≡ Err (Cut (cut_field s k))
+  unfolding faults_of
   cut_bodies x l m =
       rw (
         fields_seen k s 0 side_fields (omega (arith, sides_end)),
@@ -149,7 +146,7 @@ module _ (s : List ℕ) (k : ℕ) where
         in_bodies l,
       )
 
-  pub stream_cut : stream_verdict s ≡ Clear → k < length s → stream_verdict (take k s) ≡ Refused (refusal 20 (cut_field s k))
+  pub stream_cut : stream_verdict s ≡ clear → k < length s → stream_verdict (take k s) ≡ Err (Cut (cut_field s k))
   stream_cut clear m =
       let x = faultless s (width_of s) (height_of s) clear in
       ⊎_elim

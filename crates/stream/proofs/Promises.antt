@@ -5,18 +5,18 @@ use mathlib.Core.List.{List, ◌∷◌, ◌++◌}
 use mathlib.Core.Path.{◌≡◌, refl, sym, ap, ◌∙◌}
 use native.Mathlib.Omega.{arith}
 use lib.Dec.{ltb}
-use lib.IntN.{ℤ}
-use lib.ListN.{length, take, length-take, length-drop}
+use lib.ListN.{length, take}
 use lib.Seq.{take_all}
 use Rattle.laws.specs.First.{count_to}
 use Rattle.laws.proofs.Tables.{length-tabulate}
 use Rattle.laws.proofs.Sole.{Sole, sole}
-use Rattle.verdict.specs.Verdict.{refusal, ◌⨟◌, refuse_if, number_of, if_clear}
+use Rattle.verdict.specs.Verdict.{Verdict, clear, ◌⨟◌, refuse_if, number_of, if_clear}
 use Rattle.verdict.specs.declared.Refusal.{Refusal}
-use Rattle.verdict.specs.declared.Verdict.{Verdict}
-use Rattle.verdict.specs.declared.Verdict.TheVariants as verdict
 use Rattle.verdict.proofs.Verdicts.{Test, Tabled, RefusesCounting, refuses_counting, its_own, never_six, in_turn, tabled, tabled_then, then_same, then_clear}
-use Rattle.verdict.proofs.Answers.{counted-told, was_accepted}
+use Rattle.verdict.proofs.Answers.{counted_is_told, was_accepted}
+use Rattle.verdict.specs.declared.Refusal.TheVariants.{Parameter, Cut}
+use Rattle.verdict.specs.Numbers.{refusal_number}
+use Rattle.std.specs.Prelude.{Ok, Err}
 use Rattle.window.specs.Shape.{bad_sides}
 use Rattle.window.specs.View.{above, seen}
 use Rattle.window.proofs.Views.{Agree}
@@ -32,16 +32,12 @@ use Rattle.stream.specs.Fields.{body_at}
 use Rattle.stream.specs.Stream.{width_of, height_of, full_of, black_of, sites_in, packed_in, first_field, second_field, unpacked, mask_of, first_of, second_of, stream_verdict}
 use Rattle.stream.specs.Job.{job_verdict, no_figures, job_figures, job_answer, paper_of, job_paper}
 use Rattle.stream.specs.Walk.{directly}
-use Rattle.stream.specs.declared.Answer.TheVariants.{Figures, Refused}
+use Rattle.stream.specs.declared.JobFigures.{JobFigures}
 use Rattle.stream.proofs.Streams.{Faultless, faultless}
-use Rattle.stream.proofs.Frames.{left, unpacks}
+use Rattle.stream.proofs.Frames.{left, unpacks, body_long}
 use Rattle.stream.proofs.Answers.{together-same, fault_is, calls_are, work_is}
 use Rattle.stream.proofs.Tables.{fields_tests, stream_tests, scale_test, left_tests, stream_table, dark_left, left_is}
 use Rattle.stream.proofs.Cuts.{faults_seen, word_seen, cut_field, stream_cut}
-
--- a field's body is all there
-body_long : (s : List ℕ) (at n : ℕ) → at + 3 + n ≤ length s → length (body_at s at n) ≡ n
-body_long s at n l = simp (length-take, length-drop) (omega arith)
 
 module _ (s : List ℕ) where
   -- only: no second answer meets the promise
@@ -51,7 +47,7 @@ module _ (s : List ℕ) where
   -- the paper's numbers are those of the answer
   pub paper_is : paper_of (job_answer s) ≡ job_paper s
   unfolding job_answer job_paper
-  paper_is = counted-told paper_of (job_verdict s) refl (λ r. refl)
+  paper_is = counted_is_told no_figures (job_figures s) (job_verdict s)
 
   -- what the library is lent of a stream without a fault: a legal window, and buffers of its length
   record Lent : Type 0 where
@@ -60,7 +56,7 @@ module _ (s : List ℕ) where
     first : length (first_of s) ≡ sites_in s
     second : length (second_of s) ≡ sites_in s
 
-  lent : stream_verdict s ≡ verdict.Clear → Lent
+  lent : stream_verdict s ≡ clear → Lent
   lent clear =
       let x = faultless s (width_of s) (height_of s) clear in
       record {
@@ -82,7 +78,7 @@ module _ (s : List ℕ) where
       rw (then_same (stream_verdict s) (λ clear. library clear))
       (tabled_then (stream_table s (width_of s) (height_of s)) (tabled (scale_test (full_of s)) (left_tests (width_of s) (height_of s) (full_of s) (black_of s) (mask_of s) (first_of s) (second_of s))))
     where
-      library : stream_verdict s ≡ verdict.Clear
+      library : stream_verdict s ≡ clear
           → pair_verdict (width_of s) (height_of s) (full_of s) (mask_of s) (first_of s) (second_of s)
           ⨟ dark_verdict (width_of s) (height_of s) (full_of s) (black_of s) (mask_of s) (first_of s)
           ≡ in_turn (scale_test (full_of s)) (left_tests (width_of s) (height_of s) (full_of s) (black_of s) (mask_of s) (first_of s) (second_of s))
@@ -99,9 +95,9 @@ module _ (s : List ℕ) where
   refused = refuses_counting (job_verdict s) given refl refl (two_counting (width_of s) (height_of s) (full_of s) (seen (mask_of s) (first_of s)) (seen (mask_of s) (second_of s))) (λ r e. rw e)
 
   -- pairs_six: a 6 of the job is the pair's, with its place and its count, since the dark level sees a frame that the pair has accepted
-  pub pairs_six : (r : Refusal) → job_verdict s ≡ verdict.Refused r → r.number ≡ 6
-      → pair_verdict (width_of s) (height_of s) (full_of s) (mask_of s) (first_of s) (second_of s) ≡ verdict.Refused r
-  unfolding job_verdict fields_tests ◌⨟◌
+  pub pairs_six : (r : Refusal) → job_verdict s ≡ Err r → (refusal_number r) ≡ 6
+      → pair_verdict (width_of s) (height_of s) (full_of s) (mask_of s) (first_of s) (second_of s) ≡ Err r
+  unfolding job_verdict fields_tests
   pairs_six r e six = past_stream (stream_verdict s) refl e
     where
       pair_is : Verdict
@@ -110,17 +106,17 @@ module _ (s : List ℕ) where
       dark_is : Verdict
       dark_is = dark_verdict (width_of s) (height_of s) (full_of s) (black_of s) (mask_of s) (first_of s)
 
-      own_three : stream_verdict s ≡ verdict.Clear → pair_is ≡ verdict.Clear → dark_is ≡ refuse_if 3 0 (ltb (full_of s) (black_of s))
+      own_three : stream_verdict s ≡ clear → pair_is ≡ clear → dark_is ≡ refuse_if Parameter (ltb (full_of s) (black_of s))
       own_three clear = let l = lent clear in
           dark_left (width_of s) (height_of s) (full_of s) (black_of s) (mask_of s) (first_of s) (second_of s) l.even l.mask l.first l.second
 
-      past-pair : stream_verdict s ≡ verdict.Clear → (v : Verdict) → pair_is ≡ v → v ⨟ dark_is ≡ verdict.Refused r → pair_is ≡ verdict.Refused r
-      past-pair clear (verdict.Refused q) p f = p ∙ f
-      past-pair clear verdict.Clear p f = absurd (omega (arith, six, ap (λ (q : Refusal). q.number) (its_own (refusal 3 0) _ (sym (own_three clear p) ∙ f))))
+      past-pair : stream_verdict s ≡ clear → (v : Verdict) → pair_is ≡ v → v ⨟ dark_is ≡ Err r → pair_is ≡ Err r
+      past-pair clear (Err q) p f = p ∙ f
+      past-pair clear (Ok _) p f = absurd (omega (arith, six, ap (λ (q : Refusal). (refusal_number q)) (its_own Parameter _ (sym (own_three clear p) ∙ f))))
 
-      past_stream : (v : Verdict) → stream_verdict s ≡ v → v ⨟ pair_is ⨟ dark_is ≡ verdict.Refused r → pair_is ≡ verdict.Refused r
-      past_stream verdict.Clear clear f = past-pair clear pair_is refl f
-      past_stream (verdict.Refused q) p f =
+      past_stream : (v : Verdict) → stream_verdict s ≡ v → v ⨟ pair_is ⨟ dark_is ≡ Err r → pair_is ≡ Err r
+      past_stream (Ok _) clear f = past-pair clear pair_is refl f
+      past_stream (Err q) p f =
           absurd (never_six (stream_verdict s) (stream_table s (width_of s) (height_of s)) refl refl (ap number_of (p ∙ f) ∙ six))
 
   -- the noise is over 64 × sites and the dark level over sites, so the other numbers tell all that is printed
@@ -130,17 +126,16 @@ module _ (s : List ℕ) where
     where
       by : (v : Verdict) → ((if_clear v (job_figures s) no_figures).r_over ≡ 64 * (if_clear v (job_figures s) no_figures).sites)
           × ((if_clear v (job_figures s) no_figures).dark_over ≡ (if_clear v (job_figures s) no_figures).sites)
-      by verdict.Clear = (refl, refl)
-      by (verdict.Refused r) = (refl, refl)
+      by (Ok _) = (refl, refl)
+      by (Err r) = (refl, refl)
 
   -- a stream that is answered with figures has no fault
-  pub accepted : (n p q r r_over : ℕ) (level : ℤ) (dark_over : ℕ) → job_answer s ≡ Figures n p q r r_over level dark_over → stream_verdict s ≡ verdict.Clear
+  pub accepted : (f : JobFigures) → job_answer s ≡ Ok f → stream_verdict s ≡ clear
   unfolding job_answer job_verdict
-  accepted n p q r r_over level dark_over e =
-      (then_clear (stream_verdict s) _ (was_accepted (job_verdict s) (λ t f. let z : ◌≡◌ {A = ℕ} 0 1 = cc in absurd (omega arith)) e).0).0
+  accepted f e = (then_clear (stream_verdict s) _ (was_accepted (job_verdict s) e).0).0
 
   -- ---- of a stream without a fault: its sides are legal and at most 64 (`Faultless`)
-  module _ (clear : stream_verdict s ≡ verdict.Clear) where
+  module _ (clear : stream_verdict s ≡ clear) where
     abbrev whole : Faultless s (width_of s) (height_of s)
     whole = faultless s (width_of s) (height_of s) clear
 
@@ -169,7 +164,7 @@ module _ (s : List ℕ) where
         (frame (second_field (sites_in s)) two q (omega (arith, whole.long))))
 
     -- cut anywhere before its end, it is refused: 20, at the field that was cut
-    pub cut : (k : ℕ) → k < length s → job_answer (take k s) ≡ Refused (refusal 20 (cut_field s k))
+    pub cut : (k : ℕ) → k < length s → job_answer (take k s) ≡ Err (Cut (cut_field s k))
     cut k l = sym (fault_is (take k s) (stream_cut s k clear l))
 
 -- the first 14,369 bytes decide the answer
@@ -180,8 +175,8 @@ decided s = by (stream_verdict s) refl
     read = rw (word_seen 14369 s 3 (omega arith), word_seen 14369 s 8 (omega arith)) (faults_seen 14369 s (width_of s) (height_of s) (omega arith))
 
     by : (v : Verdict) → stream_verdict s ≡ v → job_answer (take 14369 s) ≡ job_answer s
-    by verdict.Clear e = ap job_answer (take_all 14369 s (omega (arith, longest s e)))
-    by (verdict.Refused r) e = sym (fault_is (take 14369 s) (read ∙ e)) ∙ fault_is s e
+    by (Ok _) e = ap job_answer (take_all 14369 s (omega (arith, longest s e)))
+    by (Err r) e = sym (fault_is (take 14369 s) (read ∙ e)) ∙ fault_is s e
 
 -- whatever follows them
 pub same_start : (s t : List ℕ) → take 14369 s ≡ take 14369 t → job_answer s ≡ job_answer t
@@ -198,7 +193,7 @@ pub record Alike (s t : List ℕ) : Type 0 where
   pub second : Agree (mask_of s) (second_of s) (second_of t)
 
 -- of two that have no fault
-figures-alike : (s t : List ℕ) → Alike s t → stream_verdict s ≡ verdict.Clear → stream_verdict t ≡ verdict.Clear → job_answer s ≡ job_answer t
+figures-alike : (s t : List ℕ) → Alike s t → stream_verdict s ≡ clear → stream_verdict t ≡ clear → job_answer s ≡ job_answer t
 figures-alike s t a clear clear' =
     sym (calls_are s clear)
     ∙ together-same (pair.blind (width_of s) (height_of s) (full_of s) a.first a.second) (dark.blind (width_of s) (height_of s) (full_of s) (black_of s) (mask_of s) (first_of s) (first_of t) a.first)
@@ -209,5 +204,5 @@ pub blind : (s t : List ℕ) → Alike s t → stream_verdict s ≡ stream_verdi
 blind s t a same = by (stream_verdict s) refl
   where
     by : (v : Verdict) → stream_verdict s ≡ v → job_answer s ≡ job_answer t
-    by verdict.Clear e = figures-alike s t a e (sym same ∙ e)
-    by (verdict.Refused r) e = sym (fault_is s e) ∙ fault_is t (sym same ∙ e)
+    by (Ok _) e = figures-alike s t a e (sym same ∙ e)
+    by (Err r) e = sym (fault_is s e) ∙ fault_is t (sym same ∙ e)

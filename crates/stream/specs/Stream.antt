@@ -1,8 +1,8 @@
 -- Document 01, "Job program": the fields of a job, and what is judged of them before the library is asked.
 use Rattle.std.specs.Prelude.{ℕ, ◌+◌, Bool, ◌||◌, List, [], ◌∷◌, ltb}
 use Rattle.laws.specs.Table.{tabulate}
-use Rattle.verdict.specs.Verdict.{◌⨟◌, refuse_if}
-use Rattle.verdict.specs.declared.Verdict.{Verdict}
+use Rattle.verdict.specs.Verdict.{Verdict, ◌⨟◌, refuse_if}
+use Rattle.verdict.specs.declared.Refusal.TheVariants.{Sides, TooWide}
 use Rattle.window.specs.Shape.{bad_sides, sites_of}
 use Rattle.raw.specs.Packed.{sample10, length10}
 use Rattle.stream.specs.Fields.{Field, field, word_at, body_at, fields_at, past_all, extra_at}
@@ -24,8 +24,8 @@ wide_sides w h = ltb 64 w || ltb 64 h
 unfoldable pub faults_of : List ℕ → ℕ → ℕ → Verdict
 faults_of s w h =
     fields_at s 0 side_fields
-    ⨟ refuse_if 1 0 (bad_sides w h)
-    ⨟ refuse_if 24 0 (wide_sides w h)
+    ⨟ refuse_if Sides (bad_sides w h)
+    ⨟ refuse_if TooWide (wide_sides w h)
     ⨟ fields_at s 10 (body_fields (sites_of w h))
     ⨟ extra_at s (past_all 10 (body_fields (sites_of w h)))
 

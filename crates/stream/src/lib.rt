@@ -1,95 +1,100 @@
 // A job in a stream of tagged fields: document 01, "Job program".
 #![tactic(auto)]
 
-ghost use Rattle.std.specs.Prelude.{◌≡◌, ◌+◌, ◌*◌, ◌<◌, ◌≤◌, length, get_or, take};
-ghost use Rattle.verdict.specs.declared.Verdict.TheVariants.{Clear};
+ghost use Rattle.std.specs.Prelude.{◌≡◌, ◌+◌, ◌<◌, ◌≤◌, length, get_or, take};
+ghost use Rattle.verdict.specs.Verdict.{clear};
+ghost use Rattle.verdict.specs.Answer.{answer_of};
 ghost use Rattle.window.specs.Shape.{sites_of};
 ghost use Rattle.raw.specs.Unpack.{unpack_verdict};
-ghost use Rattle.pair.specs.Pair.{paper_of as pair_paper_of};
-ghost use Rattle.stream.specs.Fields.{word_at, field, field_at, fields_at, past_all, extra_at};
+ghost use Rattle.stream.specs.Fields.{word_at, field, past, body_at, field_at, fields_at, past_all};
 ghost use Rattle.stream.specs.Stream.{side_fields, body_fields, wide_sides, faults_of, unpacked, stream_verdict};
-ghost use Rattle.stream.specs.Job.{job_answer, paper_of, job_paper};
-ghost use Rattle.stream.specs.Walk.{together, directly};
+ghost use Rattle.stream.specs.Job.{printed, job_answer, paper_of, job_paper};
+ghost use Rattle.stream.specs.Walk.{directly};
 
-use dark::Dark;
-use pair::Pair;
-use verdict::{Refusal, Verdict};
+use dark::Level;
+use pair::PairFigures;
+use std::fmt;
+use verdict::Refusal;
 
-// What the job prints: sites, variance p / q, noise r / r_over, dark dark / dark_over; or a refusal.
+// What the job prints: sites, variance p / q, noise r / r_over, dark dark / dark_over.
 #[derive(Clone, Copy)]
-pub enum Answer {
-    Figures {
-        sites: u64,
-        p: u64,
-        q: u64,
-        r: u64,
-        r_over: u64,
-        dark: i64,
-        dark_over: u64,
-    },
-    Refused(Refusal),
+pub struct JobFigures {
+    pub sites: u64,
+    pub p: u64,
+    pub q: u64,
+    pub r: u64,
+    pub r_over: u64,
+    pub dark: i64,
+    pub dark_over: u64,
+}
+
+// The four lines that the job prints.
+impl fmt::Display for JobFigures {
+    fn fmt<W: fmt::Write>(&self, f: &mut fmt::Formatter<W>) -> fmt::Result {
+        writeln!(f, "sites {}", self.sites)?;
+        writeln!(f, "variance {}/{}", self.p, self.q)?;
+        writeln!(f, "noise {}/{}", self.r, self.r_over)?;
+        write!(f, "dark {}/{}", self.dark, self.dark_over)
+    }
 }
 
 // The byte at i, and 0 past the end.
 fn byte_at(s: &[u8], i: usize) -> u8
     ensures { result ≡ get_or s.now i 0 }
 {
-    if i < s.len() { s[i] } else { 0 }
-}
-
-fn two_bytes(high: u8, low: u8) -> usize
-    ensures { (result ≡ high * 256 + low) × (result < 65536) }
-{
-    (high as usize) * 256 + (low as usize)
+    s.get(i).copied().unwrap_or(0)
 }
 
 // Two bytes as a number, the high one first.
-fn word_at(s: &[u8], i: usize) -> usize
+#[tactic(auto, unfolding(crate::specs::Fields::word_at))]
+fn word_at(s: &[u8], i: usize) -> u16
     requires { i ≤ 65536 }
-    ensures { (result ≡ word_at s.now i) × (result < 65536) }
+    ensures { result ≡ word_at s.now i }
 {
-    two_bytes(byte_at(s, i), byte_at(s, i + 1))
+    u16::from_be_bytes([byte_at(s, i), byte_at(s, i + 1)])
 }
 
-// 20, 21 and 22, of the field that is due at `at`.
-fn field(s: &[u8], at: usize, tag: u8, long: usize) -> Verdict
+// The place past the field that is due at `at`, or 20, 21 or 22.
+#[tactic(auto, unfolding(crate::specs::Fields::field_at))]
+fn field(s: &[u8], at: usize, tag: u8, long: usize) -> Result<usize, Refusal>
     requires { (at < 65536) × (long < 65536) }
-    ensures { result ≡ field_at s.now at (field tag long) }
+    ensures { result ≡ answer_of (field_at s.now at (field tag long)) (past at (field tag long)) }
 {
-    let none = verdict::refuse_if(20, at, s.len() < at + 1);
-    let other = verdict::refuse_if(21, at, byte_at(s, at) != tag);
-    let short = verdict::refuse_if(20, at, s.len() < at + 3);
-    let wrong = verdict::refuse_if(22, at, word_at(s, at + 1) != long);
-    let cut = verdict::refuse_if(20, at, s.len() < at + 3 + long);
-    let length = verdict::then(short, verdict::then(wrong, cut));
-    verdict::then(none, verdict::then(other, length))
+    verdict::refuse_if(Refusal::Cut(at), s.len() < at + 1)?;
+    verdict::refuse_if(Refusal::OtherTag(at), byte_at(s, at) != tag)?;
+    verdict::refuse_if(Refusal::Cut(at), s.len() < at + 3)?;
+    verdict::refuse_if(
+        Refusal::OtherLength(at),
+        usize::from(word_at(s, at + 1)) != long,
+    )?;
+    let past = at + 3 + long;
+    verdict::refuse_if(Refusal::Cut(at), s.len() < past)?;
+    Ok(past)
 }
 
-fn side_fields(s: &[u8]) -> Verdict
-    ensures { result ≡ fields_at s.now 0 side_fields }
+// The place past the sides.
+#[tactic(auto, unfolding(crate::specs::Fields::fields_at, crate::specs::Fields::past_all))]
+fn side_fields(s: &[u8]) -> Result<usize, Refusal>
+    ensures { result ≡ answer_of (fields_at s.now 0 side_fields) (past_all 0 side_fields) }
 {
-    verdict::then(field(s, 0, 1, 2), field(s, 5, 2, 2))
+    let at = field(s, 0, 1, 2)?;
+    field(s, at, 2, 2)
 }
 
-// The fields after the sides, in a stream of n sites.
-fn body_fields(s: &[u8], n: usize) -> Verdict
-    requires { n ≤ 16384 }
-    ensures { result ≡ fields_at s.now 10 (body_fields n) }
+// The place past the fields that follow the sides, in a stream of n sites.
+#[tactic(auto, unfolding(crate::specs::Fields::fields_at, crate::specs::Fields::past_all))]
+fn body_fields(s: &[u8], sides_end: usize, n: usize) -> Result<usize, Refusal>
+    requires { (sides_end ≤ 10) × (n ≤ 16384) }
+    ensures { result ≡ answer_of (fields_at s.now sides_end (body_fields n)) (past_all sides_end (body_fields n)) }
 {
+    // Each place is named by the field that begins there.
     let packed = n * 5 / 4;
-    let at_first = 23 + n;
-    let at_second = at_first + 3 + packed;
-    let full_scale = field(s, 10, 3, 2);
-    let black_level = field(s, 15, 4, 2);
-    let mask = field(s, 20, 5, n);
-    let first = field(s, at_first, 6, packed);
-    let second = field(s, at_second, 7, packed);
-    let last = field(s, at_second + 3 + packed, 0, 0);
-    let frames = verdict::then(first, verdict::then(second, last));
-    verdict::then(
-        full_scale,
-        verdict::then(black_level, verdict::then(mask, frames)),
-    )
+    let black_level = field(s, sides_end, 3, 2)?;
+    let mask = field(s, black_level, 4, 2)?;
+    let first = field(s, mask, 5, n)?;
+    let second = field(s, first, 6, packed)?;
+    let last = field(s, second, 7, packed)?;
+    field(s, last, 0, 0)
 }
 
 #[tactic(auto, unfolding(crate::specs::Stream::wide_sides))]
@@ -99,78 +104,46 @@ fn wide_sides(width: usize, height: usize) -> bool
     64 < width || 64 < height
 }
 
-// 23, in a stream of n sites.
-fn end(s: &[u8], n: usize) -> Verdict
-    requires { n ≤ 16384 }
-    ensures { result ≡ extra_at s.now (past_all 10 (body_fields n)) }
-{
-    let end = 32 + n + 2 * (n * 5 / 4);
-    verdict::refuse_if(23, end, end < s.len())
-}
-
 // All that is judged of the stream before the library is asked.
-fn judge(s: &[u8], width: usize, height: usize) -> Verdict
+#[tactic(auto, unfolding(crate::specs::Stream::faults_of))]
+fn judge(s: &[u8], width: usize, height: usize) -> Result<(), Refusal>
     ensures { result ≡ faults_of s.now width height }
 {
-    let n = window::sites(width, height);
-    let illegal = verdict::refuse_if(1, 0, window::bad_sides(width, height));
-    let wide = verdict::refuse_if(24, 0, wide_sides(width, height));
-    let bodies = verdict::then(body_fields(s, n), end(s, n));
-    let sides = verdict::then(illegal, verdict::then(wide, bodies));
-    verdict::then(side_fields(s), sides)
+    let at = side_fields(s)?;
+    verdict::refuse_if(Refusal::Sides, window::bad_sides(width, height))?;
+    verdict::refuse_if(Refusal::TooWide, wide_sides(width, height))?;
+    let end = body_fields(s, at, window::sites(width, height))?;
+    verdict::refuse_if(Refusal::Extra(end), end < s.len())
 }
 
 // The frame in a body of RAW10, at the front of an array for the largest window.
 fn frame_of(width: usize, height: usize, body: &[u8]) -> [u16; 4096]
-    requires { (sites_of width height ≤ 4096) × (unpack_verdict width height (length body.now) (sites_of width height) ≡ Clear) }
+    requires { (sites_of width height ≤ 4096) × (unpack_verdict width height (length body.now) (sites_of width height) ≡ clear) }
     ensures { (take (sites_of width height) result ≡ unpacked (sites_of width height) body.now) × (length result ≡ 4096) }
 {
     let n = window::sites(width, height);
     let mut frame = [0u16; 4096];
-    raw::unpack_raw10(width, height, body, &mut frame[..n]);
+    raw::unpack_raw10(width, height, body, &mut frame[..n]).unwrap();
     frame
 }
 
-// Two answers as one: the first refusal, or what is printed.
-fn together(pair: Pair, dark: Dark) -> Answer
-    requires { (pair_paper_of pair).figures.n ≤ 16384 }
-    ensures { result ≡ together pair dark }
+// What is printed of a pair's figures and a dark level.
+fn printed(pair: PairFigures, dark: Level) -> JobFigures
+    requires { pair.n ≤ 16384 }
+    ensures { result ≡ printed pair dark }
 {
-    match pair {
-        Pair::Refused(refusal) => Answer::Refused(refusal),
-        Pair::Measured(figures) => match dark {
-            Dark::Refused(refusal) => Answer::Refused(refusal),
-            Dark::Level(level, count) => Answer::Figures {
-                sites: figures.n,
-                p: figures.p,
-                q: figures.q,
-                r: figures.r,
-                r_over: 64 * figures.n,
-                dark: level,
-                dark_over: count,
-            },
-        },
+    JobFigures {
+        sites: pair.n,
+        p: pair.p,
+        q: pair.q,
+        r: pair.r,
+        r_over: 64 * pair.n,
+        dark: dark.numerator,
+        dark_over: dark.denominator,
     }
 }
 
-// The library's calls: pair noise, and then dark level of the first frame.
-fn figures(
-    width: usize,
-    height: usize,
-    full_scale: u64,
-    black_level: u64,
-    mask: &[u8],
-    first: &[u16],
-    second: &[u16],
-) -> Answer
-    ensures { result ≡ directly width height full_scale black_level mask.now first.now second.now }
-{
-    let pair = pair::pair_figures(width, height, full_scale, mask, first, second);
-    let dark = dark::dark_level(width, height, full_scale, black_level, mask, first);
-    together(pair, dark)
-}
-
-// The frames of two bodies, and the library's calls on them.
+// The library's calls on the frames of two bodies: pair noise, and then dark level of the first.
 fn measure(
     width: usize,
     height: usize,
@@ -179,57 +152,54 @@ fn measure(
     mask: &[u8],
     first: &[u8],
     second: &[u8],
-) -> Answer
-    requires { (sites_of width height ≤ 4096) × (unpack_verdict width height (length first.now) (sites_of width height) ≡ Clear) × (unpack_verdict width height (length second.now) (sites_of width height) ≡ Clear) }
+) -> Result<JobFigures, Refusal>
+    requires { (sites_of width height ≤ 4096) × (unpack_verdict width height (length first.now) (sites_of width height) ≡ clear) × (unpack_verdict width height (length second.now) (sites_of width height) ≡ clear) }
     ensures { result ≡ directly width height full_scale black_level mask.now (unpacked (sites_of width height) first.now) (unpacked (sites_of width height) second.now) }
 {
     let n = window::sites(width, height);
     let one = frame_of(width, height, first);
     let two = frame_of(width, height, second);
-    figures(
-        width,
-        height,
-        full_scale,
-        black_level,
-        mask,
-        &one[..n],
-        &two[..n],
-    )
+    let pair = pair::pair_figures(width, height, full_scale, mask, &one[..n], &two[..n])?;
+    let dark = dark::dark_level(width, height, full_scale, black_level, mask, &one[..n])?;
+    Ok(printed(pair, dark))
+}
+
+// The body of the field at `at`.
+fn body_at(s: &[u8], at: usize, long: usize) -> &[u8]
+    requires { at + 3 + long ≤ length s.now }
+    ensures { result.now ≡ body_at s.now at long }
+{
+    &s[at + 3..at + 3 + long]
 }
 
 // The job of a stream without a fault.
-fn work(input: &[u8]) -> Answer
-    requires { stream_verdict input.now ≡ Clear }
+fn work(input: &[u8]) -> Result<JobFigures, Refusal>
+    requires { stream_verdict input.now ≡ clear }
     ensures { result ≡ job_answer input.now }
 {
-    let width = word_at(input, 3);
-    let height = word_at(input, 8);
-    let full_scale = word_at(input, 13) as u64;
-    let black_level = word_at(input, 18) as u64;
+    let width = usize::from(word_at(input, 3));
+    let height = usize::from(word_at(input, 8));
     let n = window::sites(width, height);
     let packed = n * 5 / 4;
-    let mask = 23 + n;
-    let first = mask + 3;
-    let first_end = first + packed;
-    let second = first_end + 3;
-    let end = second + packed;
+    let first = 23 + n;
+    let second = first + 3 + packed;
     measure(
         width,
         height,
-        full_scale,
-        black_level,
-        &input[23..mask],
-        &input[first..first_end],
-        &input[second..end],
+        u64::from(word_at(input, 13)),
+        u64::from(word_at(input, 18)),
+        body_at(input, 20, n),
+        body_at(input, first, packed),
+        body_at(input, second, packed),
     )
 }
 
-pub fn job(input: &[u8]) -> Answer
+pub fn job(input: &[u8]) -> Result<JobFigures, Refusal>
     ensures answer { result ≡ job_answer input.now }
     ensures paper { paper_of result ≡ job_paper input.now }
 {
-    match judge(input, word_at(input, 3), word_at(input, 8)) {
-        Verdict::Refused(refusal) => Answer::Refused(refusal),
-        Verdict::Clear => work(input),
-    }
+    let width = usize::from(word_at(input, 3));
+    let height = usize::from(word_at(input, 8));
+    judge(input, width, height)?;
+    work(input)
 }

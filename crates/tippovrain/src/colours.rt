@@ -2,7 +2,8 @@
 ghost use Rattle.std.specs.Prelude.{◌≡◌};
 ghost use Rattle.colour.specs.Colour.{ratio, colour_paper};
 
-use colour::Colour;
+use crate::answers::tell_counted;
+use colour::{Colours, Ratio};
 
 #[unsafe(no_mangle)]
 pub extern "C" fn tip_colour_ratios(
@@ -29,7 +30,7 @@ pub extern "C" fn tip_colour_ratios(
     ensures b { ratio b_numerator.new b_denominator.new ≡ (colour_paper width height full_scale black_level bayer_order mask.now frame.now).figures.b }
     ensures gb { ratio gb_numerator.new gb_denominator.new ≡ (colour_paper width height full_scale black_level bayer_order mask.now frame.now).figures.gb }
 {
-    match colour::colour_ratios(
+    let answer = colour::colour_ratios(
         width,
         height,
         full_scale,
@@ -37,31 +38,21 @@ pub extern "C" fn tip_colour_ratios(
         bayer_order,
         mask,
         frame,
-    ) {
-        Colour::OverGr(r, b, gb) => {
-            let r_up = r.numerator;
-            let b_up = b.numerator;
-            let gb_up = gb.numerator;
-            *place = 0;
-            *over = 0;
-            *r_numerator = r_up;
-            *r_denominator = r.denominator;
-            *b_numerator = b_up;
-            *b_denominator = b.denominator;
-            *gb_numerator = gb_up;
-            *gb_denominator = gb.denominator;
-            0
-        }
-        Colour::Refused(refusal) => {
-            *place = refusal.place as u64;
-            *over = refusal.over;
-            *r_numerator = 0;
-            *r_denominator = 0;
-            *b_numerator = 0;
-            *b_denominator = 0;
-            *gb_numerator = 0;
-            *gb_denominator = 0;
-            refusal.number
-        }
-    }
+    );
+    let none = Ratio {
+        numerator: 0,
+        denominator: 0,
+    };
+    let ratios = answer.unwrap_or(Colours {
+        r: none,
+        b: none,
+        gb: none,
+    });
+    *r_numerator = ratios.r.numerator;
+    *r_denominator = ratios.r.denominator;
+    *b_numerator = ratios.b.numerator;
+    *b_denominator = ratios.b.denominator;
+    *gb_numerator = ratios.gb.numerator;
+    *gb_denominator = ratios.gb.denominator;
+    tell_counted(answer, place, over)
 }

@@ -3,8 +3,7 @@ ghost use Rattle.std.specs.Prelude.{◌≡◌, length};
 ghost use Rattle.sites.specs.Find.{find_paper, find_mask};
 ghost use Rattle.repair.specs.Repair.{repair_paper, repair_frame, repair_mask};
 
-use repair::Repaired;
-use sites::Defects;
+use crate::answers::tell_counted;
 
 #[unsafe(no_mangle)]
 pub extern "C" fn tip_find_defects(
@@ -25,20 +24,9 @@ pub extern "C" fn tip_find_defects(
     ensures count { count.new ≡ (find_paper width height full_scale threshold mask.now frame.now (length out_mask.old)).figures }
     ensures buffer { out_mask.new ≡ find_mask width height full_scale threshold mask.now frame.now out_mask.old }
 {
-    match sites::find_defects(width, height, full_scale, threshold, mask, frame, out_mask) {
-        Defects::Found(found) => {
-            *place = 0;
-            *over = 0;
-            *count = found;
-            0
-        }
-        Defects::Refused(refusal) => {
-            *place = refusal.place as u64;
-            *over = refusal.over;
-            *count = 0;
-            refusal.number
-        }
-    }
+    let answer = sites::find_defects(width, height, full_scale, threshold, mask, frame, out_mask);
+    *count = answer.unwrap_or(0);
+    tell_counted(answer, place, over)
 }
 
 #[unsafe(no_mangle)]
@@ -61,18 +49,7 @@ pub extern "C" fn tip_repair(
     ensures frame { out_frame.new ≡ repair_frame width height full_scale mask.now frame.now out_frame.old (length out_mask.old) }
     ensures mask { out_mask.new ≡ repair_mask width height full_scale mask.now frame.now (length out_frame.old) out_mask.old }
 {
-    match repair::repair(width, height, full_scale, mask, frame, out_frame, out_mask) {
-        Repaired::Filled(sites) => {
-            *place = 0;
-            *over = 0;
-            *filled = sites;
-            0
-        }
-        Repaired::Refused(refusal) => {
-            *place = refusal.place as u64;
-            *over = refusal.over;
-            *filled = 0;
-            refusal.number
-        }
-    }
+    let answer = repair::repair(width, height, full_scale, mask, frame, out_frame, out_mask);
+    *filled = answer.unwrap_or(0);
+    tell_counted(answer, place, over)
 }

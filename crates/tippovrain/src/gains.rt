@@ -2,7 +2,8 @@
 ghost use Rattle.std.specs.Prelude.{◌≡◌};
 ghost use Rattle.gain.specs.Gain.{curve_of_rows, transfer_paper};
 
-use gain::Transfer;
+use crate::answers::tell;
+use gain::Gain;
 
 // A point of the header is a row: three numbers, exposure, mean and variance.
 #[unsafe(no_mangle)]
@@ -23,23 +24,16 @@ pub extern "C" fn tip_photon_transfer(
     ensures slope { slope.new ≡ (transfer_paper (curve_of_rows points.now) first last).figures.slope }
     ensures saturation { saturation.new ≡ (transfer_paper (curve_of_rows points.now) first last).figures.saturation }
 {
-    match gain::transfer_of_rows(points, first, last) {
-        Transfer::Measured(gain) => {
-            let upper = gain.numerator;
-            *place = 0;
-            *numerator = upper;
-            *denominator = gain.denominator;
-            *slope = gain.slope;
-            *saturation = gain.saturation as u64;
-            0
-        }
-        Transfer::Refused(refusal) => {
-            *place = refusal.place as u64;
-            *numerator = 0;
-            *denominator = 0;
-            *slope = 0.0;
-            *saturation = 0;
-            refusal.number
-        }
-    }
+    let answer = gain::transfer_of_rows(points, first, last);
+    let gain = answer.unwrap_or(Gain {
+        numerator: 0,
+        denominator: 0,
+        slope: 0.0,
+        saturation: 0,
+    });
+    *numerator = gain.numerator;
+    *denominator = gain.denominator;
+    *slope = gain.slope;
+    *saturation = gain.saturation as u64;
+    tell(answer, place)
 }

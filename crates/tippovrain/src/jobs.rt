@@ -2,7 +2,8 @@
 ghost use Rattle.std.specs.Prelude.{◌≡◌};
 ghost use Rattle.stream.specs.Job.{job_paper};
 
-use stream::Answer;
+use crate::answers::tell_counted;
+use stream::JobFigures;
 
 #[unsafe(no_mangle)]
 pub extern "C" fn tip_job(
@@ -24,34 +25,20 @@ pub extern "C" fn tip_job(
     ensures r { r.new ≡ (job_paper input.now).figures.r }
     ensures dark { dark.new ≡ (job_paper input.now).figures.dark }
 {
-    match stream::job(input) {
-        Answer::Figures {
-            sites: surveyed,
-            p: numerator,
-            q: denominator,
-            r: root,
-            r_over: _,
-            dark: level,
-            dark_over: _,
-        } => {
-            *place = 0;
-            *over = 0;
-            *sites = surveyed;
-            *p = numerator;
-            *q = denominator;
-            *r = root;
-            *dark = level;
-            0
-        }
-        Answer::Refused(refusal) => {
-            *place = refusal.place as u64;
-            *over = refusal.over;
-            *sites = 0;
-            *p = 0;
-            *q = 0;
-            *r = 0;
-            *dark = 0;
-            refusal.number
-        }
-    }
+    let answer = stream::job(input);
+    let figures = answer.unwrap_or(JobFigures {
+        sites: 0,
+        p: 0,
+        q: 0,
+        r: 0,
+        r_over: 0,
+        dark: 0,
+        dark_over: 0,
+    });
+    *sites = figures.sites;
+    *p = figures.p;
+    *q = figures.q;
+    *r = figures.r;
+    *dark = figures.dark;
+    tell_counted(answer, place, over)
 }

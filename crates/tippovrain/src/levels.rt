@@ -2,7 +2,8 @@
 ghost use Rattle.std.specs.Prelude.{◌≡◌};
 ghost use Rattle.dark.specs.Dark.{dark_paper};
 
-use dark::Dark;
+use crate::answers::tell_counted;
+use dark::Level;
 
 #[unsafe(no_mangle)]
 pub extern "C" fn tip_dark_level(
@@ -23,20 +24,12 @@ pub extern "C" fn tip_dark_level(
     ensures numerator { numerator.new ≡ (dark_paper width height full_scale black_level mask.now frame.now).figures.numerator }
     ensures denominator { denominator.new ≡ (dark_paper width height full_scale black_level mask.now frame.now).figures.denominator }
 {
-    match dark::dark_level(width, height, full_scale, black_level, mask, frame) {
-        Dark::Level(level, count) => {
-            *place = 0;
-            *over = 0;
-            *numerator = level;
-            *denominator = count;
-            0
-        }
-        Dark::Refused(refusal) => {
-            *place = refusal.place as u64;
-            *over = refusal.over;
-            *numerator = 0;
-            *denominator = 0;
-            refusal.number
-        }
-    }
+    let answer = dark::dark_level(width, height, full_scale, black_level, mask, frame);
+    let level = answer.unwrap_or(Level {
+        numerator: 0,
+        denominator: 0,
+    });
+    *numerator = level.numerator;
+    *denominator = level.denominator;
+    tell_counted(answer, place, over)
 }

@@ -1,6 +1,7 @@
 // The C interface, include/tippovrain.h: each function is the call of its name, with every number of its answer in a place of its own.
 #![tactic(auto)]
 
+mod answers;
 mod colours;
 mod defects;
 mod gains;

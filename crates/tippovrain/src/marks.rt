@@ -1,29 +1,9 @@
 // Defective rows and columns.
 ghost use Rattle.std.specs.Prelude.{◌≡◌, length};
 ghost use Rattle.lines.specs.Lines.{rows, columns};
-ghost use Rattle.lines.specs.Marks.{paper_of, lines_paper, lines_buffer};
+ghost use Rattle.lines.specs.Marks.{lines_paper, lines_buffer};
 
-use lines::Marked;
-
-// The numbers of an answer of either call, each in its place.
-fn hand_marked(answer: Marked, place: &mut u64, over: &mut u64) -> u64
-    ensures number { result ≡ (paper_of answer).number }
-    ensures place { place.new ≡ (paper_of answer).place }
-    ensures over { over.new ≡ (paper_of answer).over }
-{
-    match answer {
-        Marked::Done => {
-            *place = 0;
-            *over = 0;
-            0
-        }
-        Marked::Refused(refusal) => {
-            *place = refusal.place as u64;
-            *over = refusal.over;
-            refusal.number
-        }
-    }
-}
+use crate::answers::tell_counted;
 
 #[unsafe(no_mangle)]
 pub extern "C" fn tip_defective_rows(
@@ -42,7 +22,7 @@ pub extern "C" fn tip_defective_rows(
     ensures buffer { marks.new ≡ lines_buffer rows width height full_scale mask.now frame.now marks.old }
 {
     let answer = lines::defective_rows(width, height, full_scale, mask, frame, marks);
-    hand_marked(answer, place, over)
+    tell_counted(answer, place, over)
 }
 
 #[unsafe(no_mangle)]
@@ -62,5 +42,5 @@ pub extern "C" fn tip_defective_columns(
     ensures buffer { marks.new ≡ lines_buffer columns width height full_scale mask.now frame.now marks.old }
 {
     let answer = lines::defective_columns(width, height, full_scale, mask, frame, marks);
-    hand_marked(answer, place, over)
+    tell_counted(answer, place, over)
 }

@@ -2,7 +2,8 @@
 ghost use Rattle.std.specs.Prelude.{◌≡◌};
 ghost use Rattle.pair.specs.Pair.{pair_paper};
 
-use pair::Pair;
+use crate::answers::tell_counted;
+use pair::PairFigures;
 
 #[unsafe(no_mangle)]
 pub extern "C" fn tip_pair_figures(
@@ -31,28 +32,20 @@ pub extern "C" fn tip_pair_figures(
     ensures variance { variance.new ≡ (pair_paper width height full_scale mask.now first.now second.now).figures.variance }
     ensures noise { noise.new ≡ (pair_paper width height full_scale mask.now first.now second.now).figures.noise }
 {
-    match pair::pair_figures(width, height, full_scale, mask, first, second) {
-        Pair::Measured(figures) => {
-            *place = 0;
-            *over = 0;
-            *n = figures.n;
-            *p = figures.p;
-            *q = figures.q;
-            *r = figures.r;
-            *variance = figures.variance;
-            *noise = figures.noise;
-            0
-        }
-        Pair::Refused(refusal) => {
-            *place = refusal.place as u64;
-            *over = refusal.over;
-            *n = 0;
-            *p = 0;
-            *q = 0;
-            *r = 0;
-            *variance = 0.0;
-            *noise = 0.0;
-            refusal.number
-        }
-    }
+    let answer = pair::pair_figures(width, height, full_scale, mask, first, second);
+    let figures = answer.unwrap_or(PairFigures {
+        n: 0,
+        p: 0,
+        q: 0,
+        r: 0,
+        variance: 0.0,
+        noise: 0.0,
+    });
+    *n = figures.n;
+    *p = figures.p;
+    *q = figures.q;
+    *r = figures.r;
+    *variance = figures.variance;
+    *noise = figures.noise;
+    tell_counted(answer, place, over)
 }

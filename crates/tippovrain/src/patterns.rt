@@ -1,42 +1,24 @@
 // Pattern noise.
 ghost use Rattle.std.specs.Prelude.{◌≡◌};
 ghost use Rattle.pattern.specs.Lines.{columns, rows};
-ghost use Rattle.pattern.specs.Pattern.{paper_of, pattern_paper};
+ghost use Rattle.std.specs.Result.{result_unwrap_or};
+ghost use Rattle.pattern.specs.Figures.{no_figures};
+ghost use Rattle.pattern.specs.Pattern.{pattern_paper};
 
-use pattern::Pattern;
+use crate::answers::tell;
+use pattern::Figures;
+use verdict::Refusal;
 
-// The numbers of a pattern answer, each in its place.
-fn hand_pattern(
-    answer: Pattern,
-    place: &mut u64,
-    level_numerator: &mut u64,
-    level_denominator: &mut u64,
-    max_numerator: &mut u64,
-    max_denominator: &mut u64,
-) -> u64
-    ensures number { result ≡ (paper_of answer).number }
-    ensures place { place.new ≡ (paper_of answer).place }
-    ensures level { (level_numerator.new ≡ (paper_of answer).figures.level_numerator) × (level_denominator.new ≡ (paper_of answer).figures.level_denominator) }
-    ensures max { (max_numerator.new ≡ (paper_of answer).figures.max_numerator) × (max_denominator.new ≡ (paper_of answer).figures.max_denominator) }
+// The figures of an answer, or zeros.
+fn figures_or_zeros(answer: Result<Figures, Refusal>) -> Figures
+    ensures { result ≡ result_unwrap_or answer no_figures }
 {
-    match answer {
-        Pattern::Measured(figures) => {
-            *place = 0;
-            *level_numerator = figures.level_numerator;
-            *level_denominator = figures.level_denominator;
-            *max_numerator = figures.max_numerator;
-            *max_denominator = figures.max_denominator;
-            0
-        }
-        Pattern::Refused(refusal) => {
-            *place = refusal.place as u64;
-            *level_numerator = 0;
-            *level_denominator = 0;
-            *max_numerator = 0;
-            *max_denominator = 0;
-            refusal.number
-        }
-    }
+    answer.unwrap_or(Figures {
+        level_numerator: 0,
+        level_denominator: 0,
+        max_numerator: 0,
+        max_denominator: 0,
+    })
 }
 
 #[unsafe(no_mangle)]
@@ -59,14 +41,12 @@ pub extern "C" fn tip_pattern_vertical(
     ensures max { (max_numerator.new ≡ (pattern_paper columns width height full_scale frames mask.now sums.now).figures.max_numerator) × (max_denominator.new ≡ (pattern_paper columns width height full_scale frames mask.now sums.now).figures.max_denominator) }
 {
     let answer = pattern::pattern_vertical(width, height, full_scale, frames, mask, sums);
-    hand_pattern(
-        answer,
-        place,
-        level_numerator,
-        level_denominator,
-        max_numerator,
-        max_denominator,
-    )
+    let figures = figures_or_zeros(answer);
+    *level_numerator = figures.level_numerator;
+    *level_denominator = figures.level_denominator;
+    *max_numerator = figures.max_numerator;
+    *max_denominator = figures.max_denominator;
+    tell(answer, place)
 }
 
 #[unsafe(no_mangle)]
@@ -89,12 +69,10 @@ pub extern "C" fn tip_pattern_horizontal(
     ensures max { (max_numerator.new ≡ (pattern_paper rows width height full_scale frames mask.now sums.now).figures.max_numerator) × (max_denominator.new ≡ (pattern_paper rows width height full_scale frames mask.now sums.now).figures.max_denominator) }
 {
     let answer = pattern::pattern_horizontal(width, height, full_scale, frames, mask, sums);
-    hand_pattern(
-        answer,
-        place,
-        level_numerator,
-        level_denominator,
-        max_numerator,
-        max_denominator,
-    )
+    let figures = figures_or_zeros(answer);
+    *level_numerator = figures.level_numerator;
+    *level_denominator = figures.level_denominator;
+    *max_numerator = figures.max_numerator;
+    *max_denominator = figures.max_denominator;
+    tell(answer, place)
 }

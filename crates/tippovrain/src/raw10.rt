@@ -2,7 +2,7 @@
 ghost use Rattle.std.specs.Prelude.{◌≡◌, length};
 ghost use Rattle.raw.specs.Unpack.{unpack_paper, unpack_buffer};
 
-use raw::Unpacked;
+use crate::answers::tell;
 
 #[unsafe(no_mangle)]
 pub extern "C" fn tip_unpack_raw10(
@@ -16,14 +16,5 @@ pub extern "C" fn tip_unpack_raw10(
     ensures place { place.new ≡ (unpack_paper width height (length bytes.now) (length out.old)).place }
     ensures buffer { out.new ≡ unpack_buffer width height bytes.now out.old }
 {
-    match raw::unpack_raw10(width, height, bytes, out) {
-        Unpacked::Done => {
-            *place = 0;
-            0
-        }
-        Unpacked::Refused(refusal) => {
-            *place = refusal.place as u64;
-            refusal.number
-        }
-    }
+    tell(raw::unpack_raw10(width, height, bytes, out), place)
 }

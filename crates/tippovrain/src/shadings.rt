@@ -1,31 +1,10 @@
 // Colour shading.
 ghost use Rattle.std.specs.Prelude.{◌≡◌, length};
-ghost use Rattle.blocks.specs.Table.{paper_of, table_paper, table_totals, table_counts};
+ghost use Rattle.blocks.specs.Table.{table_paper, table_totals, table_counts};
 ghost use Rattle.blocks.specs.Recode.{recode_paper, recode_mask, recode_totals, recode_counts};
 ghost use Rattle.shading.specs.Judge.{asked, lengths, judge_paper, judge_numerators, judge_denominators, judge_refusals, judge_fails};
 
-use blocks::Shaded;
-use shading::Judged;
-
-// The numbers of an answer of table or recode, each in its place.
-fn hand_shaded(answer: Shaded, place: &mut u64, over: &mut u64) -> u64
-    ensures number { result ≡ (paper_of answer).number }
-    ensures place { place.new ≡ (paper_of answer).place }
-    ensures over { over.new ≡ (paper_of answer).over }
-{
-    match answer {
-        Shaded::Done => {
-            *place = 0;
-            *over = 0;
-            0
-        }
-        Shaded::Refused(refusal) => {
-            *place = refusal.place as u64;
-            *over = refusal.over;
-            refusal.number
-        }
-    }
-}
+use crate::answers::{tell, tell_counted};
 
 #[unsafe(no_mangle)]
 pub extern "C" fn tip_shading_table(
@@ -46,7 +25,7 @@ pub extern "C" fn tip_shading_table(
     ensures counts { counts.new ≡ table_counts width height full_scale mask.now frame.now totals.old counts.old }
 {
     let answer = blocks::shading_table(width, height, full_scale, mask, frame, totals, counts);
-    hand_shaded(answer, place, over)
+    tell_counted(answer, place, over)
 }
 
 #[unsafe(no_mangle)]
@@ -73,7 +52,7 @@ pub extern "C" fn tip_shading_recode(
     let answer = blocks::shading_recode(
         width, height, full_scale, site, code, mask, frame, totals, counts,
     );
-    hand_shaded(answer, place, over)
+    tell_counted(answer, place, over)
 }
 
 #[unsafe(no_mangle)]
@@ -99,7 +78,7 @@ pub extern "C" fn tip_shading_judge(
     ensures refusals { refusals.new ≡ judge_refusals (asked width height full_scale black_level bayer_order limit) (lengths (length numerators.old) (length denominators.old) (length refusals.old) (length fails.old)) totals.now counts.now refusals.old }
     ensures fails { fails.new ≡ judge_fails (asked width height full_scale black_level bayer_order limit) (lengths (length numerators.old) (length denominators.old) (length refusals.old) (length fails.old)) totals.now counts.now fails.old }
 {
-    match shading::shading_judge(
+    let answer = shading::shading_judge(
         width,
         height,
         full_scale,
@@ -112,14 +91,6 @@ pub extern "C" fn tip_shading_judge(
         denominators,
         refusals,
         fails,
-    ) {
-        Judged::Done => {
-            *place = 0;
-            0
-        }
-        Judged::Refused(refusal) => {
-            *place = refusal.place as u64;
-            refusal.number
-        }
-    }
+    );
+    tell(answer, place)
 }

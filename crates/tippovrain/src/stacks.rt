@@ -5,8 +5,8 @@ ghost use Rattle.adding.specs.Add.{add_paper, add_stack};
 ghost use Rattle.variance.specs.Variance.{variance_paper};
 ghost use Rattle.blinking.specs.Blinking.{blinking_paper};
 
-use adding::Added;
-use blinking::Blinking;
+use crate::answers::{tell, tell_counted};
+use stack::Stack;
 use variance::Variance;
 
 #[unsafe(no_mangle)]
@@ -34,22 +34,11 @@ pub extern "C" fn tip_stack_add(
     ensures least { least.new ≡ (add_stack width height full_scale mask.now frame.now (stack_of frames sums.old squares.old least.old greatest.old)).least }
     ensures greatest { greatest.new ≡ (add_stack width height full_scale mask.now frame.now (stack_of frames sums.old squares.old least.old greatest.old)).greatest }
 {
-    match adding::stack_add(
+    let answer = adding::stack_add(
         width, height, full_scale, frames, mask, frame, sums, squares, least, greatest,
-    ) {
-        Added::Frames(held) => {
-            *place = 0;
-            *over = 0;
-            *count = held;
-            0
-        }
-        Added::Refused(refusal) => {
-            *place = refusal.place as u64;
-            *over = refusal.over;
-            *count = 0;
-            refusal.number
-        }
-    }
+    );
+    *count = answer.unwrap_or(0);
+    tell_counted(answer, place, over)
 }
 
 #[unsafe(no_mangle)]
@@ -74,24 +63,23 @@ pub extern "C" fn tip_stack_variance(
     ensures denominator { denominator.new ≡ (variance_paper width height full_scale mask.now (stack_of frames sums.now squares.now least.now greatest.now)).figures.denominator }
     ensures variance { variance.new ≡ (variance_paper width height full_scale mask.now (stack_of frames sums.now squares.now least.now greatest.now)).figures.variance }
 {
-    match variance::stack_variance(
-        width, height, full_scale, frames, mask, sums, squares, least, greatest,
-    ) {
-        Variance::Figures(upper, lower, quotient) => {
-            *place = 0;
-            *numerator = upper;
-            *denominator = lower;
-            *variance = quotient;
-            0
-        }
-        Variance::Refused(refusal) => {
-            *place = refusal.place as u64;
-            *numerator = 0;
-            *denominator = 0;
-            *variance = 0.0;
-            refusal.number
-        }
-    }
+    let stack = Stack {
+        frames,
+        sums,
+        squares,
+        least,
+        greatest,
+    };
+    let answer = variance::stack_variance(width, height, full_scale, mask, &stack);
+    let figures = answer.unwrap_or(Variance {
+        numerator: 0,
+        denominator: 0,
+        variance: 0.0,
+    });
+    *numerator = figures.numerator;
+    *denominator = figures.denominator;
+    *variance = figures.variance;
+    tell(answer, place)
 }
 
 #[unsafe(no_mangle)]
@@ -113,18 +101,14 @@ pub extern "C" fn tip_blinking_sites(
     ensures place { place.new ≡ (blinking_paper width height full_scale spread mask.now (stack_of frames sums.now squares.now least.now greatest.now)).place }
     ensures count { count.new ≡ (blinking_paper width height full_scale spread mask.now (stack_of frames sums.now squares.now least.now greatest.now)).figures }
 {
-    match blinking::blinking_sites(
-        width, height, full_scale, frames, spread, mask, sums, squares, least, greatest,
-    ) {
-        Blinking::Sites(sites) => {
-            *place = 0;
-            *count = sites;
-            0
-        }
-        Blinking::Refused(refusal) => {
-            *place = refusal.place as u64;
-            *count = 0;
-            refusal.number
-        }
-    }
+    let stack = Stack {
+        frames,
+        sums,
+        squares,
+        least,
+        greatest,
+    };
+    let answer = blinking::blinking_sites(width, height, full_scale, spread, mask, &stack);
+    *count = answer.unwrap_or(0);
+    tell(answer, place)
 }

@@ -14,10 +14,11 @@ use Rattle.exact.specs.Quotient.{float_zero}
 use Rattle.exact.specs.Bound.{ExactFloat, CloseTo}
 use Rattle.exact.proofs.Quotients.{quotient-near, quotient-zero}
 use Rattle.exact.proofs.Division.{exact_float}
-use Rattle.verdict.specs.Verdict.{refusal, ◌⨟◌, refuse_if}
-use Rattle.verdict.specs.declared.Verdict.TheVariants as verdict
+use Rattle.verdict.specs.Verdict.{clear, ◌⨟◌, refuse_if}
 use Rattle.verdict.proofs.Verdicts.{Tabled, Refuses, refuses, then_spare}
-use Rattle.verdict.proofs.Answers.{paper_told}
+use Rattle.verdict.proofs.Answers.{paper_is_told, was_accepted}
+use Rattle.std.specs.Prelude.{Ok}
+use Rattle.verdict.specs.declared.Refusal.TheVariants.{Parameter, TooFew, TooLarge}
 use Rattle.window.specs.Shape.{bad_count, sites_of}
 use Rattle.window.specs.View.{seen, one}
 use Rattle.window.proofs.Views.{same_view}
@@ -27,9 +28,9 @@ use Rattle.stack.proofs.Promises.{AgreeStack, same-lengths, same-impossible}
 use Rattle.adding.specs.Run.{run}
 use Rattle.adding.proofs.Frames.{InRange, AllInRange, range_repeated}
 use Rattle.adding.proofs.Runs.{run_leaves}
+use Rattle.variance.specs.declared.Variance.{Variance}
 use Rattle.variance.specs.Variance.{too_few, variance_verdict, no_variance, variance_figures, variance_answer, variance_paper_of, variance_paper}
-use Rattle.variance.specs.declared.Variance.TheVariants.{Figures}
-use Rattle.variance.proofs.Variances.{scatter_most, tests, table, accepted, exact, denominator_fits, ranged, answer_is}
+use Rattle.variance.proofs.Variances.{told, scatter_most, tests, table, accepted, exact, denominator_fits, ranged, answer_is}
 use Rattle.variance.proofs.Runs.{judged_frames, enough_frames, equal_scatter}
 
 module _ (w h full : ℕ) (mask : List ℕ) (s : Stack) where
@@ -40,7 +41,7 @@ module _ (w h full : ℕ) (mask : List ℕ) (s : Stack) where
   -- the paper's numbers are those of the answer
   pub variance_paper_is : variance_paper_of (variance_answer w h full mask s) ≡ variance_paper w h full mask s
   unfolding variance_answer variance_paper
-  variance_paper_is = paper_told variance_paper_of (variance_verdict w h full mask s) refl (λ r. refl)
+  variance_paper_is = paper_is_told no_variance (variance_figures w h mask s) (variance_verdict w h full mask s)
 
   -- given: 1 to 5, 7 and 11 exactly as documents 01 and 02 table them, in that order (`Variances.tests` has the table)
   pub variance_given : Tabled (variance_verdict w h full mask s) (tests w h full mask s)
@@ -59,39 +60,45 @@ module _ (w h full : ℕ) (mask : List ℕ) (s : Stack) where
       rw (same-lengths a w h, same-impossible a (sites_of w h) full, a.frames, same_view a.sums, same_view a.squares)
 
   -- by-sums: least and greatest are in no figure. A stack of the same count, sums and squares that is not refused has the same answer
-  pub variance_by_sums : (s' : Stack) → s.frames ≡ s'.frames → s.sums ≡ s'.sums → s.squares ≡ s'.squares → variance_verdict w h full mask s' ≡ verdict.Clear
-      → (p q : ℕ) (x : Float) → variance_answer w h full mask s ≡ Figures p q x → variance_answer w h full mask s' ≡ Figures p q x
+  pub variance_by_sums : (s' : Stack) → s.frames ≡ s'.frames → s.sums ≡ s'.sums → s.squares ≡ s'.squares → variance_verdict w h full mask s' ≡ clear
+      → (f : Variance) → variance_answer w h full mask s ≡ Ok f → variance_answer w h full mask s' ≡ Ok f
   unfolding variance_answer
-  variance_by_sums s' k a b clear p q x e =
-      let is = answer_is w h full mask s p q x e in
-      rw (clear, ← k, ← a, ← b, is.3, is.1, is.2)
+  variance_by_sums s' k a b passed f e =
+      let was = was_accepted (variance_verdict w h full mask s) e in
+      rw (passed, ← k, ← a, ← b, was.1)
 
   -- spare: with document 01's 14, where the numerator is 2^53 or more, put last, every verdict is the same (document 02, h)
-  pub variance_spare : variance_verdict w h full mask s ⨟ refuse_if 14 0 (leb (2 ^ 53) (variance_figures w h mask s).numerator) ≡ variance_verdict w h full mask s
+  pub variance_spare : variance_verdict w h full mask s ⨟ refuse_if TooLarge (leb (2 ^ 53) (variance_figures w h mask s).numerator) ≡ variance_verdict w h full mask s
   variance_spare =
-      then_spare (variance_verdict w h full mask s) (refusal 14 0) (λ e.
+      then_spare (variance_verdict w h full mask s) TooLarge (λ e.
       lt-leb (2 ^ 53) (variance_figures w h mask s).numerator (exact w h full mask s (accepted w h full mask s e)))
 
   -- of an accepted variance, of p over q and as the float x
-  module _ (p q : ℕ) (x : Float) (answer : variance_answer w h full mask s ≡ Figures p q x) where
+  module _ (f : Variance) (answer : variance_answer w h full mask s ≡ Ok f) where
+    abbrev p : ℕ
+    p = f.numerator
+
+    abbrev q : ℕ
+    q = f.denominator
+
     -- whole: no s² is above its k × q, so no difference of the numerator is cut off at 0
     pub variance-whole : (i : ℕ) → i < sites_of w h → seen mask s.sums i * seen mask s.sums i ≤ s.frames * seen mask s.squares i
-    variance-whole i l = ((answer_is w h full mask s p q x answer).0.possible i l).scatter
+    variance-whole i l = ((answer_is w h full mask s f answer).0.possible i l).scatter
 
     -- in_limits: the numerator is at most n × (k × full scale)², so below 2^53, and so is the denominator; both are exact as floats
     pub variance_in_limits : let n = sum_to (sites_of w h) (one mask) in
         let k = s.frames in
         (p ≤ n * (k * full * (k * full))) × (p < 2 ^ 53) × (q < 2 ^ 53) × ExactFloat p × ExactFloat q
     variance_in_limits =
-        let is = answer_is w h full mask s p q x answer in
+        let is = answer_is w h full mask s f answer in
         let most = scatter_most (sites_of w h) full mask s is.0.possible in
         let below : (p < 2 ^ 53) × (q < 2 ^ 53) = rw (is.1, is.2) (exact w h full mask s is.0, omega (arith, denominator_fits w h full mask s is.0)) in
         (rw is.1 most, below.0, below.1, exact_float p (omega (arith, below.0)), exact_float q (omega (arith, below.1)))
 
     -- near: the float is within one part in 2^52 of the fraction
-    pub variance-near : CloseTo (2 ^ 52) x p q
+    pub variance-near : CloseTo (2 ^ 52) f.variance p q
     variance-near =
-        let is = answer_is w h full mask s p q x answer in
+        let is = answer_is w h full mask s f answer in
         rw (is.3, is.1, is.2) (quotient-near _ _ (ranged w h full mask s is.0))
 
 -- ---- runs of frames, from a stack of zeros, with one window, full scale and mask
@@ -99,20 +106,20 @@ module _ (w h full : ℕ) (mask : List ℕ) (legal : Masked w h full mask) where
   -- a run of at most 100 frames in range never meets 11: with no frame in it gets 3, with one frame or no surveyed site 7
   pub run_judged : (fs : List (List ℕ)) → AllInRange (sites_of w h) full mask fs → length fs ≤ 100
       → variance_verdict w h full mask (run w h full mask fs)
-      ≡ refuse_if 3 0 (bad_count (length fs)) ⨟ refuse_if 7 0 (too_few (sum_to (sites_of w h) (one mask)) (length fs))
+      ≡ refuse_if Parameter (bad_count (length fs)) ⨟ refuse_if TooFew (too_few (sum_to (sites_of w h) (one mask)) (length fs))
   run_judged fs ranged few = rw (run_leaves w h full mask legal fs ranged few) (judged_frames w h full mask legal fs ranged)
 
   -- two or more frames in range, with a surveyed site, have a variance
   pub run-variance : (fs : List (List ℕ)) → AllInRange (sites_of w h) full mask fs → 2 ≤ length fs → length fs ≤ 100
       → 0 < sum_to (sites_of w h) (one mask)
-      → variance_verdict w h full mask (run w h full mask fs) ≡ verdict.Clear
+      → variance_verdict w h full mask (run w h full mask fs) ≡ clear
   run-variance fs ranged two most some =
       run_judged fs ranged most ∙ enough_frames (sum_to (sites_of w h) (one mask)) (length fs) two most some
 
   -- and equal frames have the variance 0
   pub run_equal : (k : ℕ) (frame : List ℕ) → InRange (sites_of w h) full mask frame → 2 ≤ k → k ≤ 100
       → 0 < sum_to (sites_of w h) (one mask)
-      → variance_answer w h full mask (run w h full mask (replicate k frame)) ≡ Figures 0 (sum_to (sites_of w h) (one mask) * (k * k)) float_zero
+      → variance_answer w h full mask (run w h full mask (replicate k frame)) ≡ Ok (told 0 (sum_to (sites_of w h) (one mask) * (k * k)) float_zero)
   unfolding variance_answer
   run_equal k frame ranged two most some =
       let fs = replicate k frame in
@@ -121,4 +128,4 @@ module _ (w h full : ℕ) (mask : List ℕ) (legal : Masked w h full mask) where
       let accepted = run-variance fs all (omega (arith, many)) (omega (arith, many)) some in
       let frames : 0 < k = omega arith in
       rw (accepted, run_leaves w h full mask legal fs all (omega (arith, many)), equal_scatter w h full mask k frame, many)
-      (ap (Figures 0 (sum_to (sites_of w h) (one mask) * (k * k))) (quotient-zero (sum_to (sites_of w h) (one mask) * (k * k)) (mul-pos some (mul-pos frames frames))))
+      (ap (λ (x : Float). Ok (told 0 (sum_to (sites_of w h) (one mask) * (k * k)) x)) (quotient-zero (sum_to (sites_of w h) (one mask) * (k * k)) (mul-pos some (mul-pos frames frames))))

@@ -8,10 +8,9 @@ use lib.ListN.{length, replicate, length-replicate}
 use borrow.Author.Tests.{le-ltb, ne_eqb}
 use Rattle.laws.specs.Sum.{sum_to}
 use Rattle.laws.proofs.Sums.{sum-zero}
-use Rattle.verdict.specs.Verdict.{◌⨟◌, refuse_if}
-use Rattle.verdict.specs.declared.Verdict.{Verdict}
-use Rattle.verdict.specs.declared.Verdict.TheVariants as verdict
+use Rattle.verdict.specs.Verdict.{Verdict, clear, ◌⨟◌, refuse_if}
 use Rattle.verdict.proofs.Verdicts.{clear_then, clear_unless, then_end}
+use Rattle.verdict.specs.declared.Refusal.TheVariants.{Parameter, TooFew}
 use Rattle.window.specs.Shape.{bad_count, sites_of}
 use Rattle.window.specs.View.{seen, one}
 use Rattle.window.proofs.Sides.{is_count}
@@ -27,14 +26,14 @@ module _ (w h full : ℕ) (mask : List ℕ) (legal : Masked w h full mask) where
   -- of frames in range 3 and 7 are left
   pub judged_frames : (fs : List (List ℕ)) → AllInRange (sites_of w h) full mask fs
       → variance_verdict w h full mask (of_frames w h full mask fs)
-      ≡ refuse_if 3 0 (bad_count (length fs)) ⨟ refuse_if 7 0 (too_few (sum_to (sites_of w h) (one mask)) (length fs))
+      ≡ refuse_if Parameter (bad_count (length fs)) ⨟ refuse_if TooFew (too_few (sum_to (sites_of w h) (one mask)) (length fs))
   unfolding variance_verdict
   judged_frames fs ranged =
-      let three = refuse_if 3 0 (bad_count (length fs)) in
+      let three = refuse_if Parameter (bad_count (length fs)) in
       rw (parameters_left w h full mask legal (stack_long w h full mask fs), clear_unless _ (possible_in w h full mask fs ranged)) (ap (λ (v : Verdict). three ⨟ v) (then_end _))
 
 -- neither of which refuses two frames or more with a surveyed site
-pub enough_frames : (n k : ℕ) → 2 ≤ k → k ≤ 100 → 0 < n → refuse_if 3 0 (bad_count k) ⨟ refuse_if 7 0 (too_few n k) ≡ verdict.Clear
+pub enough_frames : (n k : ℕ) → 2 ≤ k → k ≤ 100 → 0 < n → refuse_if Parameter (bad_count k) ⨟ refuse_if TooFew (too_few n k) ≡ clear
 unfolding too_few
 enough_frames n k two most some =
     clear_then

@@ -11,23 +11,14 @@ use Rattle.window.specs.View.{surveyed, seen_at, seen}
 use Rattle.window.proofs.Views.{seen_le}
 use Rattle.variance.specs.Variance.{scatter}
 
--- what is seen of a product is the product of what is seen
-module _ (code : ℕ) where
-  pub scaled_seen : (k q : ℕ) → seen_at code (k * q) ≡ k * seen_at code q
-  unfolding seen_at
-  scaled_seen k q = by (surveyed code)
-    where
-      by : (b : Bool) → cond b (k * q) 0 ≡ k * cond b q 0
-      by true = refl
-      by false = omega arith
-
-  pub square_seen : (s : ℕ) → seen_at code (s * s) ≡ seen_at code s * seen_at code s
-  unfolding seen_at
-  square_seen s = by (surveyed code)
-    where
-      by : (b : Bool) → cond b (s * s) 0 ≡ cond b s 0 * cond b s 0
-      by true = refl
-      by false = refl
+-- what is seen of k × q − s² is that of what is seen
+pub scatter_seen : (code k q s : ℕ) → cond (surveyed code) (k * q - s * s) 0 ≡ k * seen_at code q - seen_at code s * seen_at code s
+unfolding seen_at
+scatter_seen code k q s = by (surveyed code)
+  where
+    by : (b : Bool) → cond b (k * q - s * s) 0 ≡ k * cond b q 0 - cond b s 0 * cond b s 0
+    by true = refl
+    by false = omega arith
 
 -- a site adds at most 127 times the largest sum of squares that 32 bits hold
 pub scatter_small : (k code q x here : ℕ) → k < 128 → q ≤ 4294967295 → here ≡ k * seen_at code q - x → here ≤ 127 * 4294967295

@@ -14,11 +14,12 @@ use Rattle.laws.proofs.Cases.{neither, times_le}
 use Rattle.laws.proofs.Sums.{sum_scaled}
 use Rattle.exact.specs.Quotient.{quotient, quotient_or_zero}
 use Rattle.exact.proofs.Quotients.{Ranged, ranged-quotient}
-use Rattle.verdict.specs.Verdict.{◌⨟◌, refuse_if}
-use Rattle.verdict.specs.declared.Refusal.{Refusal}
-use Rattle.verdict.specs.declared.Verdict.TheVariants as verdict
+use Rattle.verdict.specs.Verdict.{clear, ◌⨟◌, refuse_if}
 use Rattle.verdict.proofs.Verdicts.{Test, Tabled, test, tabled, tabled_then, then_same, then_clear, unless}
 use Rattle.verdict.proofs.Answers.{was_accepted}
+use Rattle.verdict.specs.declared.Refusal.{Refusal}
+use Rattle.verdict.specs.declared.Refusal.TheVariants.{Sides, FullScale, Parameter, Length, TooFew, Impossible}
+use Rattle.std.specs.Prelude.{Ok, Err}
 use Rattle.window.specs.Shape.{bad_count, bad_sides, bad_scale, sites_of}
 use Rattle.window.specs.Walk.{walked}
 use Rattle.window.specs.View.{seen, one}
@@ -30,8 +31,12 @@ use Rattle.refusals.proofs.Judges.{codes_test, Masked, mask_clear, mask_tabled}
 use Rattle.stack.specs.State.{Stack, stack_lengths, impossible_in}
 use Rattle.stack.specs.Walk.{found_impossible}
 use Rattle.stack.proofs.Sites.{Lengths, lengths_clear, lengths_tabled, PossibleAt, asked-whole, all-possible}
-use Rattle.variance.specs.Variance.{too_few, variance_verdict, scatter, variance_answer, variance_paper_of, variance_paper}
-use Rattle.variance.specs.declared.Variance.TheVariants.{Figures, Refused}
+use Rattle.variance.specs.declared.Variance.{Variance}
+use Rattle.variance.specs.Variance.{too_few, variance_verdict, scatter, variance_figures, variance_answer, variance_paper_of, variance_paper}
+
+-- a fraction and its quotient, as they are told
+abbrev pub told : ℕ → ℕ → Float → Variance
+told p q x = record { numerator = p; denominator = q; variance = x }
 
 -- 7 does not apply
 pub enough : (n k : ℕ) → too_few n k ≡ false → (0 < n) × (2 ≤ k)
@@ -69,17 +74,17 @@ module _ (w h full : ℕ) (mask : List ℕ) (s : Stack) where
   -- the tests in the order of documents 01 and 02
   abbrev pub tests : List Test
   tests =
-      test 1 0 (bad_sides w h)
-      ∷ test 2 0 (bad_scale full)
-      ∷ test 3 0 (bad_count s.frames)
-      ∷ test 4 0 (other_than (sites_of w h) (length mask))
-      ∷ test 4 0 (other_than (sites_of w h) (length s.sums))
-      ∷ test 4 0 (other_than (sites_of w h) (length s.squares))
-      ∷ test 4 0 (other_than (sites_of w h) (length s.least))
-      ∷ test 4 0 (other_than (sites_of w h) (length s.greatest))
+      test Sides (bad_sides w h)
+      ∷ test FullScale (bad_scale full)
+      ∷ test Parameter (bad_count s.frames)
+      ∷ test Length (other_than (sites_of w h) (length mask))
+      ∷ test Length (other_than (sites_of w h) (length s.sums))
+      ∷ test Length (other_than (sites_of w h) (length s.squares))
+      ∷ test Length (other_than (sites_of w h) (length s.least))
+      ∷ test Length (other_than (sites_of w h) (length s.greatest))
       ∷ codes_test (sites_of w h) mask
-      ∷ test 7 0 (too_few (sum_to (sites_of w h) (one mask)) s.frames)
-      ∷ test 11 0 (impossible_in (sites_of w h) full mask s)
+      ∷ test TooFew (too_few (sum_to (sites_of w h) (one mask)) s.frames)
+      ∷ test Impossible (impossible_in (sites_of w h) full mask s)
       ∷ []
 
   pub table : Tabled (variance_verdict w h full mask s) tests
@@ -88,13 +93,13 @@ module _ (w h full : ℕ) (mask : List ℕ) (s : Stack) where
 
   -- 7 is asked of what was counted in a whole mask, and 11 of the stack of a whole window: 4 comes first
   pub judged : (count : ℕ) → count ≡ sum_to (walked w h (length mask)) (one mask)
-      → mask_verdict w h full (refuse_if 3 0 (bad_count s.frames)) mask (stack_lengths w h s)
-      ⨟ refuse_if 7 0 (too_few count s.frames)
-      ⨟ refuse_if 11 0 (found_impossible full mask s)
+      → mask_verdict w h full (refuse_if Parameter (bad_count s.frames)) mask (stack_lengths w h s)
+      ⨟ refuse_if TooFew (too_few count s.frames)
+      ⨟ refuse_if Impossible (found_impossible full mask s)
       ≡ variance_verdict w h full mask s
   unfolding variance_verdict
   judged count n =
-      then_same (mask_verdict w h full (refuse_if 3 0 (bad_count s.frames)) mask (stack_lengths w h s)) (λ e.
+      then_same (mask_verdict w h full (refuse_if Parameter (bad_count s.frames)) mask (stack_lengths w h s)) (λ e.
       let lent = mask_clear w h full mask e in
       let few = (frame_count s.frames (unless _ (bad_count s.frames) lent.0)).high in
       rw (asked-whole w h full mask s lent.2 few lent.1, n, walked_whole w h (length mask) lent.2.masked))
@@ -108,7 +113,7 @@ module _ (w h full : ℕ) (mask : List ℕ) (s : Stack) where
     pub some : 0 < sum_to (sites_of w h) (one mask)
     pub possible : (i : ℕ) → i < sites_of w h → PossibleAt full mask s i
 
-  pub accepted : variance_verdict w h full mask s ≡ verdict.Clear → Accepted
+  pub accepted : variance_verdict w h full mask s ≡ clear → Accepted
   unfolding variance_verdict
   accepted e =
       let both = then_clear _ _ e in
@@ -147,40 +152,41 @@ module _ (w h full : ℕ) (mask : List ℕ) (s : Stack) where
         record { top = omega (arith, exact); some = mul-pos a.some (mul-pos frames frames); bottom = omega (arith, denominator_fits) }
 
   -- what a variance that is answered says
-  pub answer_is : (p q : ℕ) (x : Float) → variance_answer w h full mask s ≡ Figures p q x
-      → Accepted × (p ≡ numerator_of (sites_of w h) mask s) × (q ≡ denominator_of (sites_of w h) mask s) × (x ≡ quotient p q)
+  pub answer_is : (told : Variance) → variance_answer w h full mask s ≡ Ok told
+      → Accepted
+      × (told.numerator ≡ numerator_of (sites_of w h) mask s)
+      × (told.denominator ≡ denominator_of (sites_of w h) mask s)
+      × (told.variance ≡ quotient told.numerator told.denominator)
   unfolding variance_answer
-  answer_is p q x e =
-      let was = was_accepted (variance_verdict w h full mask s) (λ r f. let z : ◌≡◌ {A = ℕ} 0 1 = cc in absurd (omega arith)) e in
-      (accepted was.0, cc, cc, cc)
+  answer_is told e =
+      let was = was_accepted (variance_verdict w h full mask s) e in
+      rw (← was.1) (accepted was.0, refl, refl, refl)
 
   -- what is answered where the verdict refuses
-  pub refused_is : (r : Refusal) → variance_verdict w h full mask s ≡ verdict.Refused r
-      → (Refused r ≡ variance_answer w h full mask s) × (variance_paper_of (Refused r) ≡ variance_paper w h full mask s)
+  pub refused_is : (r : Refusal) → variance_verdict w h full mask s ≡ Err r
+      → (Err r ≡ variance_answer w h full mask s) × (variance_paper_of (Err r) ≡ variance_paper w h full mask s)
   unfolding variance_answer variance_paper
   refused_is r e = rw e (refl, refl)
 
-  -- and where it does not
-  module _ (clear : variance_verdict w h full mask s ≡ verdict.Clear) where
+  -- what is answered where the verdict is clear
+  module _ (passed : variance_verdict w h full mask s ≡ clear) where
     -- what the walk of the numerator asks of it
     pub walkable : (s.frames ≤ 100) × (length mask ≤ 16384) × (length s.sums ≡ length mask) × (length s.squares ≡ length mask)
     walkable =
-        let a = accepted clear in
+        let a = accepted passed in
         (a.most, omega (arith, a.lent.masked, sites-few w h), a.long.of_sums ∙ sym a.lent.masked, a.long.of_squares ∙ sym a.lent.masked)
 
     module _ (count : ℕ) (n : count ≡ sum_to (walked w h (length mask)) (one mask)) where
       counted : count ≡ sum_to (sites_of w h) (one mask)
-      counted = n ∙ ap (λ (m : ℕ). sum_to m (one mask)) (walked_whole w h (length mask) (accepted clear).lent.masked)
+      counted = n ∙ ap (λ (m : ℕ). sum_to m (one mask)) (walked_whole w h (length mask) (accepted passed).lent.masked)
 
       pub products_fit : (s.frames * s.frames ≤ 10000) × (count * (s.frames * s.frames) ≤ 16384 * 10000)
-      products_fit = (frames_fit (accepted clear), rw counted (denominator_fits (accepted clear)))
+      products_fit = (frames_fit (accepted passed), rw counted (denominator_fits (accepted passed)))
 
       -- p being the numerator, and v the quotient
       pub accepted_is : (p : ℕ) (v : Float) → p ≡ numerator_of (length mask) mask s → v ≡ quotient_or_zero p (count * (s.frames * s.frames))
-          → (Figures p (count * (s.frames * s.frames)) v ≡ variance_answer w h full mask s)
-          × (variance_paper_of (Figures p (count * (s.frames * s.frames)) v) ≡ variance_paper w h full mask s)
-      unfolding variance_answer variance_paper
+          → told p (count * (s.frames * s.frames)) v ≡ variance_figures w h mask s
       accepted_is p v e q =
-          let numerator = e ∙ ap (λ (m : ℕ). numerator_of m mask s) (accepted clear).lent.masked in
-          let one-rounding = ranged-quotient (numerator_of (sites_of w h) mask s) (denominator_of (sites_of w h) mask s) (ranged (accepted clear)) in
-          rw (q, clear, numerator, counted, one-rounding) (refl, refl)
+          let numerator = e ∙ ap (λ (m : ℕ). numerator_of m mask s) (accepted passed).lent.masked in
+          let one-rounding = ranged-quotient (numerator_of (sites_of w h) mask s) (denominator_of (sites_of w h) mask s) (ranged (accepted passed)) in
+          rw (q, numerator, counted, one-rounding) refl

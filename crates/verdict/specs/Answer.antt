@@ -1,14 +1,12 @@
 -- Document 01, "Refusal numbers", as document 02 d amends them: what a verdict makes of a call. This is the frame of every call: its own crate says the tests and the figures.
-use Rattle.std.specs.Prelude.{ℕ}
-use Rattle.verdict.specs.Verdict.{number_of, place_of, over_of, if_clear}
+use Rattle.std.specs.Prelude.{ℕ, Result, Ok, Err}
+use Rattle.std.specs.Result.{result_unwrap_or}
 use Rattle.verdict.specs.declared.Refusal.{Refusal}
-use Rattle.verdict.specs.declared.Verdict.{Verdict}
-use Rattle.verdict.specs.declared.Verdict.TheVariants.{Clear, Refused}
+use Rattle.verdict.specs.Verdict.{Verdict, ◌⨟◌, number_of, place_of, over_of, if_clear}
 
--- the answer: the accepted one where nothing is refused, the case of the refusal where something is
-abbrev pub answer_of : {A : Type 0} → Verdict → A → (Refusal → A) → A
-answer_of Clear accepted refused = accepted
-answer_of (Refused r) accepted refused = refused r
+-- the answer: the figures where nothing is refused, else the refusal
+abbrev pub answer_of : {F : Type 0} → Verdict → F → Result F Refusal
+answer_of v figures = v ⨟ Ok figures
 
 -- document 01's ("the paper's") numbers of a call that cannot give 6: a refusal's number and place, and its figures, of type F
 pub record Paper (F : Type 0) : Type 0 where
@@ -16,12 +14,9 @@ pub record Paper (F : Type 0) : Type 0 where
   pub place : ℕ
   pub figures : F
 
--- of an answer, by its two cases: 0, 0 and the figures; the refusal's number and place, and zeros
-abbrev pub accepted_paper : {F : Type 0} → F → Paper F
-accepted_paper figures = record { number = 0; place = 0; figures = figures }
-
-abbrev pub refused_paper : {F : Type 0} → Refusal → F → Paper F
-refused_paper r zeros = record { number = r.number; place = r.place; figures = zeros }
+-- of an answer: 0, 0 and its figures, or the refusal's number and place, and zeros
+abbrev pub answer_paper : {F : Type 0} → F → Result F Refusal → Paper F
+answer_paper zeros answer = record { number = number_of answer; place = place_of answer; figures = result_unwrap_or answer zeros }
 
 -- of a verdict: 0, 0 and the figures where nothing is refused, else the refusal's number and place, and the zeros
 abbrev pub paper_for : {F : Type 0} → Verdict → F → F → Paper F
@@ -34,12 +29,10 @@ pub record CountedPaper (F : Type 0) : Type 0 where
   pub over : ℕ
   pub figures : F
 
--- of an answer, by its two cases: 0, 0, 0 and the figures; the refusal's number, place and count, and zeros
-abbrev pub accepted_counted : {F : Type 0} → F → CountedPaper F
-accepted_counted figures = record { number = 0; place = 0; over = 0; figures = figures }
-
-abbrev pub refused_counted : {F : Type 0} → Refusal → F → CountedPaper F
-refused_counted r zeros = record { number = r.number; place = r.place; over = r.over; figures = zeros }
+-- of an answer: 0, 0, 0 and its figures, or the refusal's number, place and count, and zeros
+abbrev pub answer_counted : {F : Type 0} → F → Result F Refusal → CountedPaper F
+answer_counted zeros answer =
+    record { number = number_of answer; place = place_of answer; over = over_of answer; figures = result_unwrap_or answer zeros }
 
 -- of a verdict, likewise
 abbrev pub counted_for : {F : Type 0} → Verdict → F → F → CountedPaper F
@@ -47,5 +40,8 @@ counted_for v figures zeros =
     record { number = number_of v; place = place_of v; over = over_of v; figures = if_clear v figures zeros }
 
 -- the figures of a call that answers no number but a refusal's
-pub data Nothing : Type 0 where
-  nothing : Nothing
+abbrev pub Nothing : Type 0
+Nothing = Unit {0}
+
+abbrev pub nothing : Nothing
+nothing = tt

@@ -1,51 +1,44 @@
 -- Document 01, "Refusal numbers", as document 02 d amends them: verdicts in turn, of which the first that refuses is given.
-use Rattle.std.specs.Prelude.{ℕ, Bool, cond}
+use Rattle.std.specs.Prelude.{ℕ, Bool, cond, Result, Ok, Err}
 use Rattle.laws.specs.First.{first_to, some_to}
 use Rattle.verdict.specs.declared.Refusal.{Refusal}
-use Rattle.verdict.specs.declared.Verdict.{Verdict}
-use Rattle.verdict.specs.declared.Verdict.TheVariants.{Clear, Refused}
+use Rattle.verdict.specs.Numbers.{refusal_number, refusal_place, refusal_count}
 
--- a refusal: number, place, and how many samples are above full scale, which only 6 tells
-abbrev pub refusal_over : ℕ → ℕ → ℕ → Refusal
-refusal_over number place over = record { number = number; place = place; over = over }
+-- what a test says, or several in turn: nothing is refused, or something is
+abbrev pub Verdict : Type 0
+Verdict = Result (Unit {0}) Refusal
 
--- a refusal that counts nothing
-abbrev pub refusal : ℕ → ℕ → Refusal
-refusal number place = refusal_over number place 0
+abbrev pub clear : Verdict
+clear = Ok tt
 
--- one after the other: the first that is not clear
+-- one after the other: the first that refuses, else the last, be it a verdict or an answer
 infixr 5 ◌⨟◌
-unfoldable pub ◌⨟◌ : Verdict → Verdict → Verdict
-Clear ⨟ b = b
-Refused r ⨟ b = Refused r
+abbrev pub ◌⨟◌ : {A : Type 0} → Verdict → Result A Refusal → Result A Refusal
+Ok u ⨟ b = b
+Err r ⨟ b = Err r
 
--- refused with r where the test applies
-unfoldable pub refuse_with : Refusal → Bool → Verdict
-refuse_with r applies = cond applies (Refused r) Clear
+-- refused where the test applies
+abbrev pub refuse_if : Refusal → Bool → Verdict
+refuse_if r applies = cond applies (Err r) clear
 
--- the same by number and place, with no count
-abbrev pub refuse_if : ℕ → ℕ → Bool → Verdict
-refuse_if number place applies = refuse_with (refusal number place) applies
+-- refused at the first of n sites at which the test applies
+abbrev pub refuse_first : (ℕ → Refusal) → ℕ → (ℕ → Bool) → Verdict
+refuse_first at n test = refuse_if (at (first_to n test)) (some_to n test)
 
--- refused at the first of n sites at which the test applies; `over` is handed in
-unfoldable pub refuse_first : ℕ → ℕ → ℕ → (ℕ → Bool) → Verdict
-unfolding refuse_with
-refuse_first number over n test = refuse_with (refusal_over number (first_to n test) over) (some_to n test)
+-- the paper's number, place and count of a verdict, or of an answer
+abbrev pub number_of : {A : Type 0} → Result A Refusal → ℕ
+number_of (Ok x) = 0
+number_of (Err r) = refusal_number r
 
--- the paper's number, place and count of a verdict
-abbrev pub number_of : Verdict → ℕ
-number_of Clear = 0
-number_of (Refused r) = r.number
+abbrev pub place_of : {A : Type 0} → Result A Refusal → ℕ
+place_of (Ok x) = 0
+place_of (Err r) = refusal_place r
 
-abbrev pub place_of : Verdict → ℕ
-place_of Clear = 0
-place_of (Refused r) = r.place
-
-abbrev pub over_of : Verdict → ℕ
-over_of Clear = 0
-over_of (Refused r) = r.over
+abbrev pub over_of : {A : Type 0} → Result A Refusal → ℕ
+over_of (Ok x) = 0
+over_of (Err r) = refusal_count r
 
 -- of two values, the first where nothing is refused, the second where something is
 abbrev pub if_clear : {A : Type 0} → Verdict → A → A → A
-if_clear Clear accepted refused = accepted
-if_clear (Refused r) accepted refused = refused
+if_clear (Ok u) accepted refused = accepted
+if_clear (Err r) accepted refused = refused

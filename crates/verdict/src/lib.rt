@@ -1,44 +1,104 @@
-// Verdicts in turn, and the refusal that the first of them gives: document 01, "Refusal numbers", as document 02 d amends them.
+// Why a call is refused, and a test that refuses: document 01, "Refusal numbers", as document 02 d amends them.
 #![tactic(auto)]
 
 ghost use Rattle.std.specs.Prelude.{◌≡◌};
-ghost use Rattle.verdict.specs.Verdict.{◌⨟◌, refuse_if};
+ghost use Rattle.verdict.specs.Verdict.{refuse_if};
+ghost use Rattle.verdict.specs.Numbers.{refusal_number, refusal_place, refusal_count};
 
-// A refusal's number and place, as document 01 tables them, and how many samples are above full scale, which only 6 tells (document 02, d).
+use std::fmt;
+
+// A refusal, as document 01 tables them. 5 and 6 tell a site, and 6 how many samples are above full scale (document 02, d); 20 to 23 tell a byte of a stream.
 #[derive(Clone, Copy)]
-pub struct Refusal {
-    pub number: u64,
-    pub place: usize,
-    pub over: u64,
+pub enum Refusal {
+    Sides,
+    FullScale,
+    Parameter,
+    Length,
+    Code(usize),
+    Over(usize, u64),
+    TooFew,
+    Unsurveyed,
+    TooSmall,
+    TooDark,
+    Impossible,
+    StackFull,
+    EqualMeans,
+    TooLarge,
+    Cut(usize),
+    OtherTag(usize),
+    OtherLength(usize),
+    Extra(usize),
+    TooWide,
 }
 
-#[derive(Clone, Copy)]
-pub enum Verdict {
-    Clear,
-    Refused(Refusal),
-}
+impl Refusal {
+    pub fn number(self) -> u64
+        ensures { result ≡ refusal_number self }
+    {
+        match self {
+            Refusal::Sides => 1,
+            Refusal::FullScale => 2,
+            Refusal::Parameter => 3,
+            Refusal::Length => 4,
+            Refusal::Code(_) => 5,
+            Refusal::Over(_, _) => 6,
+            Refusal::TooFew => 7,
+            Refusal::Unsurveyed => 8,
+            Refusal::TooSmall => 9,
+            Refusal::TooDark => 10,
+            Refusal::Impossible => 11,
+            Refusal::StackFull => 12,
+            Refusal::EqualMeans => 13,
+            Refusal::TooLarge => 14,
+            Refusal::Cut(_) => 20,
+            Refusal::OtherTag(_) => 21,
+            Refusal::OtherLength(_) => 22,
+            Refusal::Extra(_) => 23,
+            Refusal::TooWide => 24,
+        }
+    }
 
-// The first of two verdicts that refuses.
-pub fn then(first: Verdict, second: Verdict) -> Verdict
-    ensures { result ≡ first ⨟ second }
-{
-    match first {
-        Verdict::Clear => second,
-        Verdict::Refused(refusal) => Verdict::Refused(refusal),
+    // The site of 5 and 6, the byte of 20 to 23, else 0.
+    pub fn place(self) -> usize
+        ensures { result ≡ refusal_place self }
+    {
+        match self {
+            Refusal::Code(site) => site,
+            Refusal::Over(site, _) => site,
+            Refusal::Cut(at) => at,
+            Refusal::OtherTag(at) => at,
+            Refusal::OtherLength(at) => at,
+            Refusal::Extra(at) => at,
+            _ => 0,
+        }
+    }
+
+    // How many samples are above full scale, which only 6 tells.
+    pub fn over(self) -> u64
+        ensures { result ≡ refusal_count self }
+    {
+        if let Refusal::Over(_, count) = self {
+            count
+        } else {
+            0
+        }
     }
 }
 
-// A refusal by number and place, with no count, where the test applies.
-pub fn refuse_if(number: u64, place: usize, applies: bool) -> Verdict
-    ensures { result ≡ refuse_if number place applies }
-{
-    if applies {
-        Verdict::Refused(Refusal {
-            number,
-            place,
-            over: 0,
-        })
-    } else {
-        Verdict::Clear
+// Number and place, and where samples are over how many: so of a 6, which has at least one.
+impl fmt::Display for Refusal {
+    fn fmt<W: fmt::Write>(&self, f: &mut fmt::Formatter<W>) -> fmt::Result {
+        write!(f, "refused {} at {}", self.number(), self.place())?;
+        if self.over() != 0 {
+            write!(f, " count {}", self.over())?;
+        }
+        Ok(())
     }
+}
+
+// Refused where the test applies.
+pub fn refuse_if(refusal: Refusal, applies: bool) -> Result<(), Refusal>
+    ensures { result ≡ refuse_if refusal applies }
+{
+    if applies { Err(refusal) } else { Ok(()) }
 }

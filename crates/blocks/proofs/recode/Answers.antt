@@ -7,9 +7,9 @@ use Rattle.blocks.proofs.recode.Goals as goal
 pub returns : goal.returns
 returns c = let a = c.args in
     record {
-      mask_after = recoded-set a.site a.code a.mask.now (omega arith);
+      mask_after = recoded-set a.at.site a.code a.mask.now (omega arith);
       totals_after = c.amend_areas.ensures
-          ∙ amended-found a.width a.height a.site _ _ _ _ _ _ a.totals.now c.requires.0 c.requires.4 c.block_entry-block.ensures c.centre_entry-centre.ensures c.seen_at-was.ensures c.seen_at-is.ensures;
+          ∙ amended-found a.at.width a.at.height a.at.site _ _ _ _ _ _ a.totals.now a.at.legal c.requires.totals_len.0 c.block_entry-block.ensures.place c.centre_entry-centre.ensures.place (c.from-was.ensures ∙ c.seen_at.ensures) (c.from-is.ensures ∙ c.seen_at-2.ensures);
       counts_after = c.amend_areas-2.ensures
-          ∙ amended-found a.width a.height a.site _ _ _ _ _ _ a.counts.now c.requires.0 c.requires.5 c.block_entry-block.ensures c.centre_entry-centre.ensures c.one_at.ensures.0 c.one_at-2.ensures.0;
+          ∙ amended-found a.at.width a.at.height a.at.site _ _ _ _ _ _ a.counts.now a.at.legal c.requires.totals_len.1 c.block_entry-block.ensures.place c.centre_entry-centre.ensures.place c.one_at.ensures.0 c.one_at-2.ensures.0;
     }

@@ -5,12 +5,10 @@ use Rattle.laws.proofs.Machine.{less_is}
 use Rattle.laws.proofs.Cases.{times_le}
 use Rattle.colour.specs.Colour.{above_black}
 use Rattle.colour.proofs.above_black.Goals as goal
-use Rattle.colour.proofs.above_black.Goals.{After-struct_known-2-1}
-
--- the black level for each site
-dark : (c : After-struct_known-2-1) → c.args.black_level * c.args.seen.count ≤ 65535 * 65535
-dark c = let a = c.args in times_le a.black_level a.seen.count 65535 65535 (omega arith) (omega arith)
 
 pub returns : goal.returns
 unfolding above_black
-returns c = let a = c.args in (less_is a.seen.total (a.black_level * a.seen.count) (omega arith) (omega (arith, dark (goal.at.returns c).After-struct_known-2-1))).val
+returns c =
+    let a = c.args in
+    let dark : a.black_level * a.seen.count ≤ 65535 * 65535 = times_le a.black_level a.seen.count 65535 65535 (omega arith) (omega arith) in
+    rw (c.from.ensures, c.from-4.ensures, c.from-2.ensures, c.from-3.ensures) (less_is a.seen.total (a.black_level * a.seen.count) (omega arith) (omega (arith, dark))).val

@@ -30,6 +30,6 @@ returns c =
     let down_is : t.x * t.y ≤ 72040001851883520 = down m t c.requires.0 c.requires.1 in
     rw (
       (less_is (m * t.xy) (t.x * t.y) (omega (arith, up_is)) (omega (arith, down_is))).val,
-      c.apart.ensures,
+      c.abs_diff.ensures,
       ⊖-size (m * t.xx) (t.x * t.x),
     )

@@ -1,43 +1,22 @@
-use Prim.Native.Nat.{◌≤◌}
-use mathlib.Core.Path.{sym, ap, ◌∙◌, subst}
-use native.Mathlib.Omega.{arith}
-use lib.ListN.{length, get_or}
-use Rattle.gain.specs.Gain.{curve_of, no_point}
-use Rattle.gain.specs.Walk.{Room, with_point}
-use Rattle.gain.specs.declared.Fit.{Fit}
-use Rattle.gain.proofs.Walks.{fit_to, walked-few, room_left, fit_more, answered}
+-- `photon_transfer` is right because a point converts to itself.
+use mathlib.Core.List.{List}
+use mathlib.Core.Path.{◌≡◌, ap, ◌∙◌}
+use Rattle.std.proofs.lemmas.List.{map-id}
+use Rattle.gain.specs.Gain.{curve_of, transfer_answer, paper_of}
+use Rattle.gain.specs.Walk.{walked_answer}
+use Rattle.gain.specs.declared.Point.{Point}
+use Rattle.gain.proofs.Walks.{answer_is, paper_of_lem}
 use Rattle.gain.proofs.photon_transfer.Goals as goal
-use Rattle.gain.proofs.photon_transfer.Goals.{At-loop-i}
+use Rattle.gain.proofs.photon_transfer.Goals.{After-transfer}
 
--- at the loop the sums have room
-roomy : (c : At-loop-i) → Room 64 c.loop-i.s.sums
-roomy c =
-    let few : c.loop-i.i ≤ 64 = omega (arith, walked-few (length c.args.points.now), c.walked-n.ensures, c.loop-i.invariant.0) in
-    subst (λ (s : Fit). Room 64 s.sums) (sym c.loop-i.invariant.1) (room_left (curve_of c.args.points.now) c.args.first c.args.last c.loop-i.i few)
-
-pub loop-i-init : goal.loop-i-init
-unfolding fit_to
-loop-i-init c = (omega arith, c.nothing_yet-s.ensures)
-
-pub with_point-s-requires : goal.with_point-s-requires
-with_point-s-requires c = roomy (goal.at.with_point-s-requires c).At-loop-i
-
-pub loop-i-preserved : goal.loop-i-preserved
-loop-i-preserved c =
-    let a = c.args in (
-      omega arith,
-      c.with_point-s.ensures
-          ∙ ap (λ (s : Fit). with_point s (get_or a.points.now c.loop-i.i no_point).mean (get_or a.points.now c.loop-i.i no_point).variance c.loop-i.i a.first a.last) c.loop-i.invariant.1
-          ∙ fit_more (curve_of a.points.now) a.first a.last c.loop-i.i,
-    )
-
-pub finish-requires : goal.finish-requires
-finish-requires c = roomy (goal.at.finish-requires c).At-loop-i
+answered : (c : After-transfer) → c.transfer.result ≡ transfer_answer (curve_of c.args.points.now) c.args.first c.args.last
+answered c =
+    c.transfer.ensures (λ (p : Point). p) (λ x p e. e)
+    ∙ ap (λ (ps : List Point). walked_answer (curve_of ps) c.args.first c.args.last) (map-id c.args.points.now)
+    ∙ answer_is (curve_of c.args.points.now) c.args.first c.args.last
 
 pub returns-clause-answer : goal.returns-clause-answer
-returns-clause-answer c =
-    (answered (curve_of c.args.points.now) c.args.first c.args.last c.loop-i.i c.loop-i.s _ (omega (arith, c.walked-n.ensures, c.loop-i.invariant.0)) c.loop-i.invariant.1 c.finish.ensures).0
+returns-clause-answer c = answered (goal.at.returns-clause-answer c).After-transfer
 
 pub returns-clause-paper : goal.returns-clause-paper
-returns-clause-paper c =
-    (answered (curve_of c.args.points.now) c.args.first c.args.last c.loop-i.i c.loop-i.s _ (omega (arith, c.walked-n.ensures, c.loop-i.invariant.0)) c.loop-i.invariant.1 c.finish.ensures).1
+returns-clause-paper c = ap paper_of (answered (goal.at.returns-clause-paper c).After-transfer) ∙ paper_of_lem (curve_of c.args.points.now) c.args.first c.args.last

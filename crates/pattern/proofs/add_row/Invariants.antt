@@ -5,7 +5,7 @@ use Rattle.pattern.proofs.Totals.{Adding}
 use Rattle.pattern.proofs.add_row.Given as goal
 
 abbrev pub invariant-loop-x : goal.invariant-loop-x
-invariant-loop-x l = Adding l.vertical l.width (held l.sums) l.y l.x l.initial.totals l.totals
+invariant-loop-x l = Adding l.lines l.width (held l.sums) l.y l.x l.initial.totals l.totals
 
 abbrev pub decreases-loop-x : goal.decreases-loop-x
 decreases-loop-x l = l.width - l.x

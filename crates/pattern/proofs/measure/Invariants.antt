@@ -6,7 +6,7 @@ use Rattle.pattern.proofs.Totals.{passed}
 use Rattle.pattern.proofs.measure.Given as goal
 
 abbrev pub invariant-loop-y : goal.invariant-loop-y
-invariant-loop-y l = (l.y ≤ l.height) × (l.totals ≡ tabulate 128 (passed l.vertical l.width (held l.sums) l.y))
+invariant-loop-y l = (l.y ≤ l.height) × (l.totals ≡ tabulate 128 (passed l.lines l.width (held l.sums) l.y))
 
 abbrev pub decreases-loop-y : goal.decreases-loop-y
 decreases-loop-y l = l.height - l.y

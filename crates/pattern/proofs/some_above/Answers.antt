@@ -1,7 +1,5 @@
-use mathlib.Core.Path.{refl}
-use native.Mathlib.Omega.{arith}
 use Rattle.laws.proofs.Firsts.{some_more}
 use Rattle.pattern.proofs.some_above.Goals as goal
 
-pub loop-i-preserved : goal.loop-i-preserved
-loop-i-preserved c = (omega arith, refl, rw (c.wide.ensures.0, c.loop-i.invariant.2) (some_more _ _))
+pub loop-sum-preserved : goal.loop-sum-preserved
+loop-sum-preserved c = rw c.loop-sum.invariant (some_more _ _)

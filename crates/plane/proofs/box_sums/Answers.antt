@@ -10,14 +10,14 @@ pub inner_sums-requires : goal.inner_sums-requires
 inner_sums-requires c = let whole = both_whole _ _ _ _ c.walkable.ensures c.if-walkable-eq0.false in
     let legal = whole.0.legal in
     record {
+      planes = omega arith;
       height_bound = omega (arith, legal.wide.high, legal.high.high);
       mask_len = (whole.0.holds, whole.1.holds);
     }
 
 pub returns : goal.returns
-returns c = let known = c.shared_slice_known-2-1.given in
-    let told = sums-told _ _ _ _ _ _ _ c.inner-part.ensures c.inner_sums.ensures.count_value.0 c.inner_sums.ensures.total_value c.walkable.ensures c.if-walkable-eq0.false in
+returns c = let told = sums-told _ _ _ _ _ _ _ c.inner-part.ensures c.inner_sums.ensures.even c.walkable.ensures c.if-walkable-eq0.false in
     record {
       value = told;
-      count_bound = (c.inner_sums.ensures.count_value.1, rw told (sums-low _ _ _ _ _ _ (λ i. omega (arith, known i))));
+      count_bound = (c.inner_sums.ensures.few, rw told (sums-low _ _ _ _ _ _ (λ i. omega (arith, c.type_inv.frame i))));
     }

@@ -1,22 +1,32 @@
--- `inner_sums` is right because a plane's sites are equally spaced along its rows and down its columns.
-use mathlib.Core.Path.{◌∙◌}
+-- `inner_sums` is right because a plane's sites are equally spaced along its rows and down its columns, and those of the next lie right of them.
+use Prim.Native.Nat.{◌+◌}
 use native.Mathlib.Omega.{arith}
-use Rattle.window.specs.View.{one, seen}
-use Rattle.plane.proofs.Planes.{site_in, stepped, stepped_down, by_columns}
+use Rattle.plane.proofs.Planes.{row_in, stepped, stepped_down, stepped_right}
+use Rattle.plane.proofs.Runs.{runs_placed, runs_turned}
 use Rattle.plane.proofs.inner_sums.Goals as goal
-use Rattle.plane.proofs.inner_sums.Goals.{After-shared_slice_known-2-1}
 
 pub runs_sums-requires-clause-by_index : goal.runs_sums-requires-clause-by_index
-runs_sums-requires-clause-by_index c = let a = c.args in
-    λ v u l m. omega (arith, stepped_down a.width a.plane u v, site_in a.width a.height a.plane u (omega arith) v (omega arith))
+runs_sums-requires-clause-by_index g c = let a = c.args in
+    λ v u l m. omega (arith, stepped_down a.width a.plane u v, row_in a.width a.height a.plane u (omega arith) (v + 1) (omega arith))
 
-pub runs_sums-requires-else-right-left-lt4-clause-by_index : goal.runs_sums-requires-else-right-left-lt4-clause-by_index
-runs_sums-requires-else-right-left-lt4-clause-by_index c = let a = c.args in
-    λ u v l m. omega (arith, stepped a.width a.plane u v, site_in a.width a.height a.plane u (omega arith) v (omega arith))
+pub runs_sums-requires-else-part-lt4-clause-by_index : goal.runs_sums-requires-else-part-lt4-clause-by_index
+runs_sums-requires-else-part-lt4-clause-by_index g c = let a = c.args in
+    λ u v l m. omega (arith, stepped a.width a.plane u v, row_in a.width a.height a.plane u (omega arith) (v + 1) (omega arith))
 
-pub returns-then-right-left-lt4 : goal.returns-then-right-left-lt4
-returns-then-right-left-lt4 c = let a = c.args in
+pub returns-then-part-lt4 : goal.returns-then-part-lt4
+returns-then-part-lt4 g c = let a = c.args in
+    let r = c.runs_sums.ensures in
     record {
-      count_value = (c.runs_sums.ensures.count_value.0 ∙ by_columns a.width a.plane _ _ _ _ (one a.mask.now), c.runs_sums.ensures.count_value.1);
-      total_value = c.runs_sums.ensures.total_value ∙ by_columns a.width a.plane _ _ _ _ (seen a.mask.now a.frame.now);
+      even = runs_turned (stepped_down a.width a.plane) r.even;
+      odd = λ both. runs_turned (λ u v. omega (arith, stepped_down a.width a.plane u v, stepped_right a.width a.plane (omega arith) u v)) (r.odd both);
+      few = r.few;
+    }
+
+pub returns-else-part-lt4 : goal.returns-else-part-lt4
+returns-else-part-lt4 g c = let a = c.args in
+    let r = c.runs_sums-else-part-lt4.ensures in
+    record {
+      even = runs_placed (stepped a.width a.plane) r.even;
+      odd = λ both. runs_placed (λ u v. omega (arith, stepped a.width a.plane u v, stepped_right a.width a.plane (omega arith) u v)) (r.odd both);
+      few = r.few;
     }

@@ -1,11 +1,12 @@
--- `runs_sums` is right because each turn adds one more run.
-use Prim.Native.Nat.{ℕ, ◌+◌, ◌-◌, ◌*◌, ◌≤◌}
-use Rattle.plane.proofs.Runs.{Runs}
+-- `runs_sums` is right because each turn adds one more run, and the run beside it.
+use Prim.Native.Nat.{ℕ, ◌+◌, ◌-◌, ◌*◌}
+use mathlib.Core.Path.{◌≡◌}
+use Rattle.plane.specs.Walk.{Few, Runs}
 use Rattle.plane.proofs.runs_sums.Given as goal
 
 abbrev pub invariant-loop-u : goal.invariant-loop-u
-invariant-loop-u l = (l.top ≤ l.u) × (l.u ≤ l.bottom)
-    × Runs l.mask l.frame (λ (y x : ℕ). l.start + l.stride * y + l.step * x) l.first l.last l.top l.u l.sums
-
-abbrev pub decreases-loop-u : goal.decreases-loop-u
-decreases-loop-u l = l.bottom - l.u
+invariant-loop-u g l = record {
+  even : Runs l.mask l.frame (λ (u v : ℕ). l.start + l.stride * u + l.step * v) l.within.left l.within.right l.within.top l.u l.even;
+  odd : g.row.PLANES ≡ 2 → Runs l.mask l.frame (λ (u v : ℕ). l.start + l.stride * u + l.step * v + 1) l.within.left l.within.right l.within.top l.u l.odd;
+  few : Few (64 * (l.u - l.within.top)) l.even × Few (64 * (l.u - l.within.top)) l.odd;
+}

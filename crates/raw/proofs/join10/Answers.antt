@@ -4,4 +4,4 @@ use Rattle.raw.proofs.Samples.{joins}
 use Rattle.raw.proofs.join10.Goals as goal
 
 pub returns : goal.returns
-returns c = joins 2 16 c.args.upper c.args.last c.args.j c.ranges.upper.fits (omega arith)
+returns c = rw (c.from.ensures, c.from-2.ensures) (joins 2 16 c.args.upper c.args.last c.args.j c.ranges.upper.fits (omega arith))

@@ -5,13 +5,13 @@ use Rattle.refusals.proofs.Searches.{AtRow, AtSite}
 use Rattle.refusals.proofs.first_over.Given as goal
 
 abbrev pub invariant-loop-column : goal.invariant-loop-column
-invariant-loop-column l = AtSite (above l.full_scale (seen l.mask l.frame)) l.width l.row l.column l.site
+invariant-loop-column l = AtSite (above l.full_scale (seen l.view.mask.now l.view.frame.now)) l.view.width l.row l.column l.site
 
 abbrev pub decreases-loop-column : goal.decreases-loop-column
-decreases-loop-column l = l.width - l.column
+decreases-loop-column l = l.view.width - l.column
 
 abbrev pub invariant-rows : goal.invariant-rows
-invariant-rows l = AtRow (above l.full_scale (seen l.mask l.frame)) l.width l.height l.row l.site
+invariant-rows l = AtRow (above l.full_scale (seen l.view.mask.now l.view.frame.now)) l.view.width l.view.height l.row l.site
 
 abbrev pub decreases-rows : goal.decreases-rows
-decreases-rows l = l.height - l.row
+decreases-rows l = l.view.height - l.row

@@ -1,14 +1,20 @@
--- `judge_mask` is right because it asks the definition's tests in its order, and 5 of a mask of another length comes after 4.
-use mathlib.Core.Path.{refl, ◌∙◌}
-use Rattle.verdict.proofs.Verdicts.{then_of}
-use Rattle.refusals.proofs.Judges.{mask_judged}
+-- `judge_mask` is right because it asks the definition's tests in its order, and 5 of a mask that 4 has let pass.
+use mathlib.Core.Path.{sym, ◌∙◌}
+use Rattle.std.proofs.Common.{rules}
+use Rattle.verdict.proofs.Verdicts.{moved_on}
+use Rattle.refusals.specs.Judge.{mask_verdict}
+use Rattle.refusals.proofs.Judges.{codes_asked, mask_whole}
 use Rattle.refusals.proofs.judge_mask.Goals as goal
 
+pub codes-requires : goal.codes-requires
+codes-requires c = mask_whole _ _ _ _ (sym c.in_ok-shape.ensures) (sym c.in_ok-length.ensures)
+
 pub returns : goal.returns
+unfolding mask_verdict
 returns c =
-    let args = c.args in
-    then_of c.then-3.ensures c.shape-shaped.ensures
-    (then_of c.then-2.ensures refl
-    (then_of c.then-lent.ensures c.length-masked.ensures
-    (then_of c.then.ensures refl c.codes-coded.ensures)))
-    ∙ mask_judged args.width args.height args.full_scale args.mask.now args.parameters args.lengths
+    let a = c.args in
+    (c.codes.ensures ∙ codes_asked a.width a.height a.full_scale a.mask.now (sym c.in_ok-shape.ensures))
+    ∙ moved_on _ (search rules)
+    ∙ moved_on _ c.in_ok-length.ensures
+    ∙ moved_on _ (sym c.in_ok-parameters.was)
+    ∙ moved_on _ c.in_ok-shape.ensures

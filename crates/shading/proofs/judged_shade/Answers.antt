@@ -14,8 +14,8 @@ of-centre c = record { up = c.requires.3; down = c.requires.4 }
 pub overflow_sub-offset : goal.overflow_sub-offset
 overflow_sub-offset c = offset_fits (of-block (goal.at.overflow_sub-offset c).Start) (of-centre (goal.at.overflow_sub-offset c).Start)
 
-pub fail_of-requires : goal.fail_of-requires
-fail_of-requires c = (c.requires.0, numerator-low (of-block (goal.at.fail_of-requires c).Start) (of-centre (goal.at.fail_of-requires c).Start) c.size-numerator.ensures c.size-denominator.ensures, denominator-low (of-block (goal.at.fail_of-requires c).Start) (of-centre (goal.at.fail_of-requires c).Start) c.size-numerator.ensures c.size-denominator.ensures)
+pub fails-requires : goal.fails-requires
+fails-requires c = (c.requires.0, numerator-low (of-block (goal.at.fails-requires c).Start) (of-centre (goal.at.fails-requires c).Start) c.unsigned_abs-numerator.ensures.value c.unsigned_abs-denominator.ensures.value, denominator-low (of-block (goal.at.fails-requires c).Start) (of-centre (goal.at.fails-requires c).Start) c.unsigned_abs-numerator.ensures.value c.unsigned_abs-denominator.ensures.value)
 
 pub returns : goal.returns
-returns c = shade_is (of-block (goal.at.returns c).Start) (of-centre (goal.at.returns c).Start) c.size-numerator.ensures c.size-denominator.ensures _ _ c.fail_of.ensures
+returns c = shade_is (of-block (goal.at.returns c).Start) (of-centre (goal.at.returns c).Start) c.unsigned_abs-numerator.ensures.value c.unsigned_abs-denominator.ensures.value _ _ c.fails.ensures

@@ -1,7 +1,6 @@
 use Prim.Native.Nat.{ℕ, ◌+◌, ◌*◌, ◌<◌, ◌≤◌}
 use mathlib.Core.Path.{◌≡◌, ap, ◌∙◌}
 use native.Mathlib.Omega.{arith}
-use lib.ListN.{length, set, length-set}
 use Rattle.laws.specs.Table.{held}
 use Rattle.laws.proofs.Tables.{storing_more}
 use Rattle.sites.specs.Walk.{strip, along_to}
@@ -14,11 +13,8 @@ module _ (c : At-loop-x) where
   abbrev step : ℕ → ℕ
   step = strip c.args.above.now c.args.below.now c.args.start
 
-  long : length c.loop-x.along ≡ 130
-  long = c.loop-x.invariant.1.long ∙ length-set (set c.args.along.now 0 0) 1 0 ∙ length-set c.args.along.now 0 0 ∙ c.requires.3
-
   total : (j : ℕ) → j < c.loop-x.x + 2 → held c.loop-x.along j ≡ along_to step j
-  total = along_read step c.loop-x.invariant.1 (begun c.args.along.now)
+  total = along_read step c.loop-x.invariant (begun c.args.along.now)
 
   few : (k : ℕ) → k < c.args.width → step k ≤ 64 * 65535
   few k inside = omega (arith, (c.requires.2.within (c.args.start + k) (omega arith)).1)
@@ -30,10 +26,8 @@ overflow_add-along-in-loop-x-2 c = let t = (goal.at.overflow_add-along-in-loop-x
 
 pub loop-x-preserved : goal.loop-x-preserved
 loop-x-preserved c = let t = (goal.at.loop-x-preserved c).At-loop-x in
-    let x = c.loop-x.x in (
-      omega arith,
-      storing_more _ c.loop-x.invariant.1 (omega (arith, long t)) (ap (λ (k : ℕ). k + step t x) (total t x (omega arith)) ∙ along_more (step t) x),
-    )
+    let x = c.loop-x.x in
+    storing_more _ c.loop-x.invariant (omega arith) (ap (λ (k : ℕ). k + step t x) (total t x (omega arith)) ∙ along_more (step t) x)
 
 pub returns : goal.returns
-returns c = let t = (goal.at.returns c).At-loop-x in record { long = long t; told = λ j low. total t j (omega arith) }
+returns c = let t = (goal.at.returns c).At-loop-x in record { told = λ j low. total t j (omega arith) }

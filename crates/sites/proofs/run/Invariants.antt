@@ -1,12 +1,8 @@
 -- `run` is right because each turn adds what stands at one more column to the total of its parity so far, two places before.
-use Prim.Native.Nat.{ℕ, ◌+◌, ◌-◌, ◌≤◌}
+use Prim.Native.Nat.{ℕ, ◌+◌}
 use Rattle.laws.proofs.Tables.{Storing}
 use Rattle.sites.specs.Walk.{strip, along_to}
 use Rattle.sites.proofs.run.Given as goal
 
 abbrev pub invariant-loop-x : goal.invariant-loop-x
-invariant-loop-x l = (l.x ≤ l.width)
-    × Storing (λ (j : ℕ). along_to (strip l.above l.below l.start) (2 + j)) l.initial.along l.along 2 l.x
-
-abbrev pub decreases-loop-x : goal.decreases-loop-x
-decreases-loop-x l = l.width - l.x
+invariant-loop-x l = Storing (λ (j : ℕ). along_to (strip l.above l.below l.start) (2 + j)) l.initial.along l.along 2 l.x

@@ -1,5 +1,6 @@
 use Prim.Native.Nat.{◌*◌, ◌≤◌}
 use native.Mathlib.Omega.{arith}
+use Rattle.std.proofs.Common.{rules}
 use lib.ListN.{get_or}
 use Rattle.variance.proofs.Turns.{scatter_small, scatter_none, scatter_more}
 use Rattle.variance.proofs.scatter.Goals as goal
@@ -8,7 +9,7 @@ use Rattle.variance.proofs.scatter.Goals.{After-scatter_at-total}
 -- what is added is small
 small : (c : After-scatter_at-total) → c.scatter_at-total.result ≤ 127 * 4294967295
 small c = let a = c.args in
-    scatter_small a.frames (get_or a.mask.now c.loop-i.i 0) (get_or a.squares.now c.loop-i.i 0) _ _ (omega arith) (omega (arith, c.shared_slice_known-3-1.given c.loop-i.i)) c.scatter_at-total.ensures
+    scatter_small a.frames (get_or a.mask.now c.loop-i.i 0) (get_or a.squares.now c.loop-i.i 0) _ _ (omega arith) (search rules) c.scatter_at-total.ensures
 
 pub loop-i-init : goal.loop-i-init
 loop-i-init c = (omega arith, omega arith, scatter_none _ _ _ _)

@@ -1,7 +1,5 @@
-use mathlib.Core.Path.{refl}
-use native.Mathlib.Omega.{arith}
 use Rattle.laws.proofs.Firsts.{some_more}
 use Rattle.window.proofs.some_code_above.Goals as goal
 
-pub loop-i-preserved : goal.loop-i-preserved
-loop-i-preserved c = (omega arith, refl, rw c.loop-i.invariant.2 (some_more _ _))
+pub loop-other-preserved : goal.loop-other-preserved
+loop-other-preserved c = rw c.loop-other.invariant (some_more _ _)

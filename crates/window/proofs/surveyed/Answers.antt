@@ -20,5 +20,5 @@ pub surveyed_few-requires : goal.surveyed_few-requires
 surveyed_few-requires c = omega (arith, (masked (goal.at.surveyed_few-requires c).Else-walkable-eq0).holds, (masked (goal.at.surveyed_few-requires c).Else-walkable-eq0).legal.few)
 
 pub returns : goal.returns
-returns c = c.surveyed_few.ensures
+returns c = c.from.ensures ∙ c.surveyed_few.ensures
     ∙ ap (λ (n : ℕ). sum_to n (one c.args.mask.now)) ((masked (goal.at.returns c).Else-walkable-eq0).holds ∙ sym (masked (goal.at.returns c).Else-walkable-eq0).sites)
