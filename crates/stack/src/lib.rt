@@ -1,7 +1,7 @@
 // A stack of frames, and refusal 11 of it: document 01, "Stack", as document 02 i amends it.
 #![tactic(auto)]
 
-ghost use Rattle.std.specs.Prelude.{◌≡◌, true, ◌≤◌, ◌<◌, length};
+ghost use Rattle.std.specs.Prelude.{◌≡◌, true, ◌%◌, ◌≤◌, ◌<◌, length};
 ghost use Rattle.verdict.specs.Verdict.{◌⨟◌, refuse_if};
 ghost use Rattle.verdict.specs.declared.Refusal.TheVariants.{Impossible};
 ghost use Rattle.refusals.specs.Judge.{length_of};
@@ -75,11 +75,11 @@ impl<'a> Stack<'a> {
             && self.greatest.len() == n
     }
 
-    // 11 at some surveyed site of a stack of at most 100 frames. A count of so few is its own rest by 128: walked by the rest, with no branch on the count before it,
-    // its products stay narrow and the walk quick.
+    // 11 at some surveyed site, by the count's rest by 128: a count to 100 is its own. Walked so, with no branch on the count before it, its products stay narrow and
+    // the walk quick.
     fn some_impossible(&self, full_scale: u64, mask: &[u8]) -> bool
         requires { readable (length mask.now) full_scale (length self.now.sums) (length self.now.squares) (length self.now.least) (length self.now.greatest) ≡ true }
-        ensures { self.now.frames ≤ 100 → result ≡ impossible_in (length mask.now) full_scale mask.now self.now }
+        ensures { result ≡ impossible_in (length mask.now) full_scale mask.now (stack_of (self.now.frames % 128) self.now.sums self.now.squares self.now.least self.now.greatest) }
     {
         let frames = (self.frames % 128) as u16;
         // With no frames in, s is 0, so 1 × least asks whether the least is above 0.

@@ -1,4 +1,4 @@
--- `refuse_impossible` is right because it heeds what it finds only of a stack of at most 100 frames that can be walked.
+-- `refuse_impossible` is right because it heeds what it finds only of a stack of at most 100 frames that can be walked, and there the rest by 128 is the count.
 use mathlib.Core.Path.{sym, ap, ◌∙◌}
 use Rattle.verdict.specs.Verdict.{refuse_if}
 use Rattle.verdict.specs.declared.Refusal.TheVariants.{Impossible}
