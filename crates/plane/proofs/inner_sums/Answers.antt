@@ -1,7 +1,9 @@
 -- `inner_sums` is right because a plane's sites are equally spaced along its rows and down its columns, and those of the next lie right of them.
 use Prim.Native.Nat.{◌+◌}
+use mathlib.Core.Path.{◌∙◌}
 use native.Mathlib.Omega.{arith}
-use Rattle.plane.proofs.Planes.{row_in, stepped, stepped_down, stepped_right}
+use Rattle.window.specs.View.{one, seen}
+use Rattle.plane.proofs.Planes.{row_in, stepped, stepped_down, stepped_right, by_columns}
 use Rattle.plane.proofs.Runs.{runs_placed, runs_turned}
 use Rattle.plane.proofs.inner_sums.Goals as goal
 
@@ -17,7 +19,11 @@ pub returns-then-part-lt4 : goal.returns-then-part-lt4
 returns-then-part-lt4 g c = let a = c.args in
     let r = c.runs_sums.ensures in
     record {
-      even = runs_turned (stepped_down a.width a.plane) r.even;
+      even =
+          record {
+            counted = r.even.counted ∙ by_columns a.width a.plane _ _ _ _ (one a.mask.now);
+            added = r.even.added ∙ by_columns a.width a.plane _ _ _ _ (seen a.mask.now a.frame.now);
+          };
       odd = λ both. runs_turned (λ u v. omega (arith, stepped_down a.width a.plane u v, stepped_right a.width a.plane (omega arith) u v)) (r.odd both);
       few = r.few;
     }
