@@ -2,12 +2,12 @@
 use Prim.Native.Nat.{ℕ, ◌+◌, ◌≤◌}
 use mathlib.Core.Bool.{false}
 use mathlib.Core.List.{List, [], ◌∷◌, ◌++◌}
-use mathlib.Core.Path.{◌≡◌, refl}
+use mathlib.Core.Path.{◌≡◌, refl, sym, ◌∙◌}
 use native.Mathlib.Omega.{arith}
 use lib.ListN.{length}
 use Rattle.laws.specs.First.{count_to}
 use Rattle.verdict.specs.Verdict.{Verdict, clear, ◌⨟◌}
-use Rattle.verdict.proofs.Verdicts.{Test, Tabled, test, tabled, tabled_none, tabled_then, then_clear, clear_then, then_same}
+use Rattle.verdict.proofs.Verdicts.{Test, Tabled, test, tabled, tabled_none, tabled_then, then_clear, clear_then, then_same, moved_on}
 use Rattle.verdict.specs.declared.Refusal.TheVariants.{Length}
 use Rattle.window.proofs.Sides.{scale}
 use Rattle.window.specs.Shape.{bad_sides, sites_of}
@@ -68,7 +68,11 @@ module _ (w h full : ℕ) (mask first second : List ℕ) where
   unfolding frames_verdict
   frames_asked e =
       let masked = mask_clear w h full mask e in
-      rw (e, masked.2.masked) (range_two w h full (seen mask first) (seen mask second))
+      let both = long masked.1 in
+      let whole : (n : ℕ) → n ≡ sites_of w h → ranged w h full (length mask) n ≡ length mask =
+      λ n l. ranged-whole w h full (length mask) n masked.2.scaled masked.2.masked l ∙ sym masked.2.masked in
+      let judged = frames_judged (counted first + counted second) (rw (whole (length first) both.0, whole (length second) both.1)) in
+      moved_on _ (sym e) ∙ (rw (whole (length first) both.0, whole (length second) both.1) at judged)
 
   pub frames_clear : frames_verdict w h full mask first second ≡ clear → Readable w h full mask first second
   unfolding frames_verdict

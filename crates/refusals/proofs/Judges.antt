@@ -2,12 +2,12 @@
 use Prim.Native.Nat.{ℕ, ◌*◌, ◌<◌, ◌≤◌}
 use mathlib.Core.Bool.{false}
 use mathlib.Core.List.{List, [], ◌∷◌, ◌++◌}
-use mathlib.Core.Path.{◌≡◌, refl, ap, ap₂, ◌∙◌}
+use mathlib.Core.Path.{◌≡◌, refl, sym, ap, ap₂, ◌∙◌}
 use native.Mathlib.Omega.{arith}
 use lib.ListN.{length, get_or}
 use Rattle.laws.specs.First.{count_to}
 use Rattle.verdict.specs.Verdict.{Verdict, clear, ◌⨟◌}
-use Rattle.verdict.proofs.Verdicts.{Test, Tabled, test, test_first, tabled, tabled_then, then_same, then_clear, then_end, clear_then}
+use Rattle.verdict.proofs.Verdicts.{Test, Tabled, test, test_first, tabled, tabled_then, then_same, then_clear, then_end, clear_then, moved_on}
 use Rattle.verdict.specs.declared.Refusal.TheVariants.{Sides, FullScale, Length, Code}
 use Rattle.window.specs.Shape.{bad_sides, bad_scale, sites_of}
 use Rattle.window.proofs.Sides.{sides, scale}
@@ -145,7 +145,9 @@ module _ (w h full : ℕ) (mask frame : List ℕ) where
   unfolding frame_verdict
   frame_asked parameters lengths e =
       let masked = mask_clear w h full mask e in
-      rw (e, masked.2.masked) (range_one w h full (seen mask frame))
+      let long = length_clear (sites_of w h) (length frame) (then_clear _ _ masked.1).0 in
+      moved_on _ (sym e)
+      ∙ frame_judged parameters lengths (length mask) (masked.2.masked ∙ sym (ranged-whole w h full (length mask) (length frame) masked.2.scaled masked.2.masked long))
 
   pub frame_of : {r p l p' l' : Verdict} → r ≡ frame_verdict w h full p mask frame l → p ≡ p' → l ≡ l' → r ≡ frame_verdict w h full p' mask frame l'
   frame_of e f g = e ∙ ap₂ (λ (p l : Verdict). frame_verdict w h full p mask frame l) f g
