@@ -1,5 +1,6 @@
 -- Document 01, "Job program": what a job answers.
-use Rattle.std.specs.Prelude.{ℕ, ◌*◌, List, pos, Result}
+use Rattle.std.specs.Prelude.{ℕ, ◌*◌, List, ◌++◌, codes, pos, Result}
+use Rattle.std.specs.Fmt.{decimal, signed_decimal}
 use Rattle.verdict.specs.Verdict.{Verdict, ◌⨟◌}
 use Rattle.verdict.specs.Answer.{answer_of, CountedPaper, answer_counted, counted_for}
 use Rattle.verdict.specs.declared.Refusal.{Refusal}
@@ -35,6 +36,17 @@ printed pair level = record {
   dark = level.numerator;
   dark_over = level.denominator;
 }
+
+-- the four lines, the last without its end
+abbrev pub fraction : List ℕ → List ℕ → List ℕ
+fraction above below = above ++ (codes "/" ++ below)
+
+abbrev pub figures_text : JobFigures → List ℕ
+figures_text f =
+    (codes "sites " ++ decimal f.sites)
+    ++ (codes "\nvariance " ++ fraction (decimal f.p) (decimal f.q))
+    ++ (codes "\nnoise " ++ fraction (decimal f.r) (decimal f.r_over))
+    ++ (codes "\ndark " ++ fraction (signed_decimal f.dark) (decimal f.dark_over))
 
 -- every number 0: what stands beside a refusal
 abbrev pub no_figures : JobFigures

@@ -1,14 +1,14 @@
 // A job in a stream of tagged fields: document 01, "Job program".
 #![tactic(auto)]
 
-ghost use Rattle.std.specs.Prelude.{◌≡◌, ◌+◌, ◌<◌, ◌≤◌, length, get_or, take};
+ghost use Rattle.std.specs.Prelude.{◌≡◌, ◌+◌, ◌<◌, ◌≤◌, Some, length, get_or, take};
 ghost use Rattle.verdict.specs.Verdict.{clear};
 ghost use Rattle.verdict.specs.Answer.{answer_of};
 ghost use Rattle.window.specs.Shape.{sites_of};
 ghost use Rattle.raw.specs.Unpack.{unpack_verdict};
 ghost use Rattle.stream.specs.Fields.{word_at, field, past, body_at, field_at, fields_at, past_all};
 ghost use Rattle.stream.specs.Stream.{side_fields, body_fields, wide_sides, faults_of, unpacked, stream_verdict};
-ghost use Rattle.stream.specs.Job.{printed, job_answer, paper_of, job_paper};
+ghost use Rattle.stream.specs.Job.{figures_text, printed, job_answer, paper_of, job_paper};
 ghost use Rattle.stream.specs.Walk.{directly};
 
 use dark::Level;
@@ -30,11 +30,13 @@ pub struct JobFigures {
 
 // The four lines that the job prints.
 impl fmt::Display for JobFigures {
+    ghost output = { λ f. Some (figures_text f) };
+
     fn fmt<W: fmt::Write>(&self, f: &mut fmt::Formatter<W>) -> fmt::Result {
-        writeln!(f, "sites {}", self.sites)?;
-        writeln!(f, "variance {}/{}", self.p, self.q)?;
-        writeln!(f, "noise {}/{}", self.r, self.r_over)?;
-        write!(f, "dark {}/{}", self.dark, self.dark_over)
+        write!(f, "sites {}", self.sites)?;
+        write!(f, "\nvariance {}/{}", self.p, self.q)?;
+        write!(f, "\nnoise {}/{}", self.r, self.r_over)?;
+        write!(f, "\ndark {}/{}", self.dark, self.dark_over)
     }
 }
 

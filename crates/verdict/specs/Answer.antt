@@ -1,5 +1,5 @@
 -- Document 01, "Refusal numbers", as document 02 d amends them: what a verdict makes of a call. This is the frame of every call: its own crate says the tests and the figures.
-use Rattle.std.specs.Prelude.{ℕ, Result, Ok, Err}
+use Rattle.std.specs.Prelude.{ℕ, Result, Ok}
 use Rattle.std.specs.Result.{result_unwrap_or}
 use Rattle.verdict.specs.declared.Refusal.{Refusal}
 use Rattle.verdict.specs.Verdict.{Verdict, ◌⨟◌, number_of, place_of, over_of, if_clear}

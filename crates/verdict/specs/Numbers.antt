@@ -1,5 +1,6 @@
 -- Document 01, "Refusal numbers", as document 02 d amends them: what is told of a refusal.
-use Rattle.std.specs.Prelude.{ℕ}
+use Rattle.std.specs.Prelude.{ℕ, cond, eqb, List, [], ◌++◌, codes}
+use Rattle.std.specs.Fmt.{decimal}
 use Rattle.verdict.specs.declared.Refusal.{Refusal}
 use Rattle.verdict.specs.declared.Refusal.TheVariants.{Sides, FullScale, Parameter, Length, Code, Over, TooFew, Unsurveyed, TooSmall, TooDark, Impossible, StackFull, EqualMeans, TooLarge, Cut, OtherTag, OtherLength, Extra, TooWide}
 
@@ -39,3 +40,9 @@ refusal_place _ = 0
 abbrev pub refusal_count : Refusal → ℕ
 refusal_count (Over site count) = count
 refusal_count _ = 0
+
+-- what it prints: "refused NUMBER at PLACE", and where samples are over " count COUNT"
+abbrev pub refusal_text : Refusal → List ℕ
+refusal_text r =
+    codes "refused " ++ decimal (refusal_number r) ++ codes " at " ++ decimal (refusal_place r)
+    ++ cond (eqb (refusal_count r) 0) [] (codes " count " ++ decimal (refusal_count r))

@@ -1,9 +1,9 @@
 // Why a call is refused, and a test that refuses: document 01, "Refusal numbers", as document 02 d amends them.
 #![tactic(auto)]
 
-ghost use Rattle.std.specs.Prelude.{◌≡◌};
+ghost use Rattle.std.specs.Prelude.{◌≡◌, Some};
 ghost use Rattle.verdict.specs.Verdict.{refuse_if};
-ghost use Rattle.verdict.specs.Numbers.{refusal_number, refusal_place, refusal_count};
+ghost use Rattle.verdict.specs.Numbers.{refusal_number, refusal_place, refusal_count, refusal_text};
 
 use std::fmt;
 
@@ -87,6 +87,8 @@ impl Refusal {
 
 // Number and place, and where samples are over how many: so of a 6, which has at least one.
 impl fmt::Display for Refusal {
+    ghost output = { λ r. Some (refusal_text r) };
+
     fn fmt<W: fmt::Write>(&self, f: &mut fmt::Formatter<W>) -> fmt::Result {
         write!(f, "refused {} at {}", self.number(), self.place())?;
         if self.over() != 0 {
