@@ -118,15 +118,13 @@ fn judge(s: &[u8], width: usize, height: usize) -> Result<(), Refusal>
     verdict::refuse_if(Refusal::Extra(end), end < s.len())
 }
 
-// The frame in a body of RAW10, at the front of an array for the largest window.
-fn frame_of(width: usize, height: usize, body: &[u8]) -> [u16; 4096]
+// Puts the frame in a body of RAW10 at the front of an array for the largest window. It is lent, since an array that is answered is copied.
+fn frame_of(width: usize, height: usize, body: &[u8], frame: &mut [u16; 4096])
     requires { (sites_of width height ≤ 4096) × (unpack_verdict width height (length body.now) (sites_of width height) ≡ clear) }
-    ensures { (take (sites_of width height) result ≡ unpacked (sites_of width height) body.now) × (length result ≡ 4096) }
+    ensures { (take (sites_of width height) frame.new ≡ unpacked (sites_of width height) body.now) × (length frame.new ≡ 4096) }
 {
     let n = window::sites(width, height);
-    let mut frame = [0u16; 4096];
     raw::unpack_raw10(width, height, body, &mut frame[..n]).unwrap();
-    frame
 }
 
 // What is printed of a pair's figures and a dark level.
@@ -159,8 +157,10 @@ fn measure(
     ensures { result ≡ directly width height full_scale black_level mask.now (unpacked (sites_of width height) first.now) (unpacked (sites_of width height) second.now) }
 {
     let n = window::sites(width, height);
-    let one = frame_of(width, height, first);
-    let two = frame_of(width, height, second);
+    let mut one = [0u16; 4096];
+    let mut two = [0u16; 4096];
+    frame_of(width, height, first, &mut one);
+    frame_of(width, height, second, &mut two);
     let pair = pair::pair_figures(width, height, full_scale, mask, &one[..n], &two[..n])?;
     let dark = dark::dark_level(width, height, full_scale, black_level, mask, &one[..n])?;
     Ok(printed(pair, dark))
