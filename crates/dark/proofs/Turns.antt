@@ -31,16 +31,10 @@ module _ (black : ℕ) (mask frame : List ℕ) where
   pub start : Is 0 (sum_to 0 (seen mask frame)) (black * sum_to 0 (one mask))
   start = rw (← sum_none (seen mask frame), ← sum_none (one mask), mul-zero black) (nat_is 0 (omega arith))
 
-  -- a turn's code and sample stand at its index
   module _ (i sum code : ℕ) (s z : ℤ) (small : black ≤ 4095) (inside : i < 16384) (fits : (j : ℕ) → Fits w16 (get_or frame j 0))
-      (so_far : to_z w64 sum ≡ sum_to i (seen mask frame) ⊖ black * sum_to i (one mask))
-      (masked : code ≡ get_or mask i 0) (framed : s ≡ pos (get_or frame i 0))
-      (here : z ≡ cond (surveyed code) (to_z w64 (of_z w64 (to_z w64 (of_z w64 s) -ℤ to_z w64 black))) (pos 0)) where
-    low : (j : ℕ) → seen mask frame j ≤ 65535
-    low j = rw seen_is (seen_le (get_or mask j 0) (get_or frame j 0) 65535 (omega (arith, fits j)))
-
+      (so_far : to_z w64 sum ≡ sum_to i (seen mask frame) ⊖ black * sum_to i (one mask)) where
     up : sum_to i (seen mask frame) ≤ i * 65535
-    up = sum-le i 65535 (seen mask frame) (λ j l. low j)
+    up = sum-le i 65535 (seen mask frame) (λ j l. rw seen_is (seen_le (get_or mask j 0) (get_or frame j 0) 65535 (omega (arith, fits j))))
 
     down : black * sum_to i (one mask) ≤ 4095 * 16384
     down = times_le black (sum_to i (one mask)) 4095 16384 small (omega (arith, surveyed-few mask i))
@@ -48,25 +42,33 @@ module _ (black : ℕ) (mask frame : List ℕ) where
     summed : Is sum (sum_to i (seen mask frame)) (black * sum_to i (one mask))
     summed = record { val = so_far; up = omega (arith, up); down = omega (arith, down) }
 
-    one_down : black * one mask i ≤ 4095 * 1
-    one_down = rw one_is (times_le black (seen_at (get_or mask i 0) 1) 4095 1 small (seen_le (get_or mask i 0) 1 1 (omega arith)))
+    one_up : seen_at code (get_or frame i 0) ≤ 65535
+    one_up = seen_le code (get_or frame i 0) 65535 (omega (arith, fits i))
 
-    less : Is (of_z w64 (to_z w64 (of_z w64 s) -ℤ to_z w64 black)) (get_or frame i 0) black
-    less =
-        let x = get_or frame i 0 in
-        let laid = laid_is s x 0 (framed ∙ sym (⊖-zero x)) (omega (arith, fits i)) (omega arith) in
-        is_as x black (sub_is laid (nat_is black (omega arith)) (omega (arith, fits i)) (omega arith)) (omega arith) (omega (arith, fits i)) (omega arith)
+    one_down : black * seen_at code 1 ≤ 4095 * 1
+    one_down = times_le black (seen_at code 1) 4095 1 small (seen_le code 1 1 (omega arith))
 
-    added : Is (of_z w64 z) (seen mask frame i) (black * one mask i)
-    added =
-        let v : z ≡ seen mask frame i ⊖ black * one mask i =
-        rw (seen_is, one_is) (chosen (get_or mask i 0) (get_or frame i 0) black z (rw (masked, less.val) at here)) in
-        laid_is z (seen mask frame i) (black * one mask i) v (omega (arith, low i)) (omega (arith, one_down))
+    -- a turn's sample stands at its index, whatever code it is taken by
+    module _ (framed : s ≡ pos (get_or frame i 0))
+        (here : z ≡ cond (surveyed code) (to_z w64 (of_z w64 (to_z w64 (of_z w64 s) -ℤ to_z w64 black))) (pos 0)) where
+      less : Is (of_z w64 (to_z w64 (of_z w64 s) -ℤ to_z w64 black)) (get_or frame i 0) black
+      less =
+          let x = get_or frame i 0 in
+          let laid = laid_is s x 0 (framed ∙ sym (⊖-zero x)) (omega (arith, fits i)) (omega arith) in
+          is_as x black (sub_is laid (nat_is black (omega arith)) (omega (arith, fits i)) (omega arith)) (omega arith) (omega (arith, fits i)) (omega arith)
 
-    pub turn_fits : SFits w64 (to_z w64 sum +ℤ to_z w64 (of_z w64 z))
-    turn_fits = add_fits summed added (omega (arith, up, low i)) (omega (arith, down, one_down))
+      added : Is (of_z w64 z) (seen_at code (get_or frame i 0)) (black * seen_at code 1)
+      added =
+          laid_is z (seen_at code (get_or frame i 0)) (black * seen_at code 1) (chosen code (get_or frame i 0) black z (rw less.val at here))
+          (omega (arith, one_up)) (omega (arith, one_down))
 
-    pub turn : Is (of_z w64 (to_z w64 sum +ℤ to_z w64 (of_z w64 z))) (sum_to (i + 1) (seen mask frame)) (black * sum_to (i + 1) (one mask))
-    turn =
-        rw (← sum_more i (seen mask frame), ← sum_more i (one mask), mul-add black (sum_to i (one mask)) (one mask i))
-        (add_is summed added (omega (arith, up, low i)) (omega (arith, down, one_down)))
+      pub turn_fits : SFits w64 (to_z w64 sum +ℤ to_z w64 (of_z w64 z))
+      turn_fits = add_fits summed added (omega (arith, up, one_up)) (omega (arith, down, one_down))
+
+    -- and so does its code
+    pub turn : (masked : code ≡ get_or mask i 0) (framed : s ≡ pos (get_or frame i 0))
+        (here : z ≡ cond (surveyed code) (to_z w64 (of_z w64 (to_z w64 (of_z w64 s) -ℤ to_z w64 black))) (pos 0))
+        → Is (of_z w64 (to_z w64 sum +ℤ to_z w64 (of_z w64 z))) (sum_to (i + 1) (seen mask frame)) (black * sum_to (i + 1) (one mask))
+    turn masked framed here =
+        rw (← sum_more i (seen mask frame), ← sum_more i (one mask), mul-add black (sum_to i (one mask)) (one mask i), seen_is, one_is, ← masked)
+        (add_is summed (added framed here) (omega (arith, up, one_up)) (omega (arith, down, one_down)))

@@ -23,7 +23,7 @@ loop-code-init c = (start _ _ _).val
 pub overflow_add-sum : goal.overflow_add-sum
 overflow_add-sum c =
     let h = here (goal.at.overflow_add-sum c).In-Some in
-    turn_fits _ _ _ (length c.loop-code.yielded) _ _ _ _ (omega (arith, c.requires)) (omega (arith, h.0, c.requires)) c.type_inv.frame c.loop-code.invariant h.1 (c.from.ensures ∙ ap pos h.2) c.if_surveyed-sum.ensures
+    turn_fits _ _ _ (length c.loop-code.yielded) _ _ _ _ (omega (arith, c.requires)) (omega (arith, h.0, c.requires)) c.type_inv.frame c.loop-code.invariant (c.from.ensures ∙ ap pos h.2) c.if_surveyed-sum.ensures
 
 pub loop-code-preserved : goal.loop-code-preserved
 loop-code-preserved c =
