@@ -18,7 +18,7 @@ use Rattle.std.specs.Prelude.{Ok, Err}
 use Rattle.window.specs.Shape.{sites_of}
 use Rattle.window.specs.View.{surveyed, seen, above}
 use Rattle.window.proofs.Views.{Agree, same_view, seen_there, seen_elsewhere}
-use Rattle.refusals.specs.Judge.{frame_verdict}
+use Rattle.refusals.specs.Judge.{frame_verdict_by}
 use Rattle.refusals.proofs.Ranges.{one_counting}
 use Rattle.refusals.proofs.Judges.{Masked}
 use Rattle.stack.specs.State.{Stack, impossible_in}
@@ -81,7 +81,7 @@ module _ (w h full : ℕ) (mask frame : List ℕ) (s : Stack) where
   -- blind: what a frame or a stack holds at unsurveyed sites changes nothing of the answer, no count either, nor what is written at surveyed ones
   module _ (frame' : List ℕ) (s' : Stack) (f : Agree mask frame frame') (a : AgreeStack mask s s') where
     same_verdict : add_verdict w h full mask frame s ≡ add_verdict w h full mask frame' s'
-    unfolding add_verdict frame_verdict
+    unfolding add_verdict frame_verdict_by
     same_verdict = rw (same-impossible a (sites_of w h) full, same-lengths a w h, a.frames, f.long, same_view f)
 
     pub add_blind : add_answer w h full mask frame s ≡ add_answer w h full mask frame' s'

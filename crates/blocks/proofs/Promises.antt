@@ -20,7 +20,7 @@ use Rattle.window.specs.Shape.{bad_sides, sites_of}
 use Rattle.window.specs.View.{seen_at, seen, one, above}
 use Rattle.window.proofs.Sides.{sides}
 use Rattle.window.proofs.Views.{Agree, same_view, one_le, seen_in, seen_out, seen_counted}
-use Rattle.refusals.specs.Judge.{frame_verdict}
+use Rattle.refusals.specs.Judge.{frame_verdict_by}
 use Rattle.refusals.proofs.Ranges.{one_counting}
 use Rattle.plane.specs.Plane.{plane_of, plane_row, plane_column}
 use Rattle.blocks.specs.Areas.{blocks_of, block_of, area_sites, entries_of, entry_area, lies_in}
@@ -64,7 +64,7 @@ module _ (w h full : ℕ) (mask frame totals counts : List ℕ) where
       → (table_answer w h full mask frame (length totals) (length counts) ≡ table_answer w h full mask other (length totals) (length counts))
       × (table_totals w h full mask frame totals counts ≡ table_totals w h full mask other totals counts)
       × (table_counts w h full mask frame totals counts ≡ table_counts w h full mask other totals counts)
-  unfolding table_answer table_totals table_counts table_verdict frame_verdict
+  unfolding table_answer table_totals table_counts table_verdict frame_verdict_by
   table_blind other a = rw (a.long, same_view a) (refl, refl, refl)
 
   -- an accepted call leaves the table of its mask and frame (`TableOf`): with any other buffers of the needed lengths it is accepted

@@ -12,7 +12,7 @@ use Rattle.verdict.specs.declared.Refusal.TheVariants.{Parameter, Code, Over}
 use Rattle.std.specs.Prelude.{Ok, Err}
 use Rattle.window.specs.Shape.{sites_of}
 use Rattle.window.specs.View.{seen, one}
-use Rattle.refusals.specs.Judge.{shape_of, length_of, codes_of, samples_of, mask_verdict, frame_verdict}
+use Rattle.refusals.specs.Judge.{shape_of, length_of, codes_of, samples_of, mask_verdict_by, frame_verdict_by}
 use Rattle.refusals.proofs.Ranges.{over_full, range_one}
 use Rattle.plane.specs.Plane.{plane_row, plane_column, sums}
 use Rattle.plane.specs.declared.Sums.{Sums}
@@ -63,7 +63,7 @@ searches w h full mask frame v =
 -- 1 to 6 in turn, each by itself
 in_turn_lem : (w h full black order : ℕ) (mask frame : List ℕ) (v : Verdict) {m f : ℕ} → length mask ≡ m → length frame ≡ f
     → lent_verdict w h full black order mask frame ⨟ v ≡ after (first_tests w h full black order m f) (searches w h full mask frame v)
-unfolding lent_verdict frame_verdict mask_verdict
+unfolding lent_verdict frame_verdict_by mask_verdict_by
 in_turn_lem w h full black order mask frame v m f = rw (← m, ← f, range_one w h full (seen mask frame)) (simp then_assoc refl)
 
 -- a site that lies in the centre of its plane

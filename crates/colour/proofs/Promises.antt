@@ -14,7 +14,7 @@ use Rattle.verdict.proofs.Answers.{counted_is_told}
 use Rattle.window.specs.Shape.{sites_of}
 use Rattle.window.specs.View.{surveyed, seen, one, above}
 use Rattle.window.proofs.Views.{Agree, same_view}
-use Rattle.refusals.specs.Judge.{frame_verdict}
+use Rattle.refusals.specs.Judge.{frame_verdict_by}
 use Rattle.refusals.proofs.Ranges.{one_counting}
 use Rattle.plane.specs.Plane.{row_parity, column_parity}
 use Rattle.colour.specs.Bayer.{mosaic, mosaic_of}
@@ -52,7 +52,7 @@ module _ (w h full black order : ℕ) (mask frame : List ℕ) where
   -- blind: what another frame holds at unsurveyed sites changes nothing, no count either
   pub blind : (other : List ℕ) → Agree mask frame other
       → colour_answer w h full black order mask frame ≡ colour_answer w h full black order mask other
-  unfolding colour_answer colour_verdict lent_verdict frame_verdict
+  unfolding colour_answer colour_verdict lent_verdict frame_verdict_by
   blind other a = rw (a.long, same_view a)
 
   -- of an accepted call with these ratios

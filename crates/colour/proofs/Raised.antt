@@ -14,7 +14,7 @@ use Rattle.window.specs.Shape.{sites_of}
 use Rattle.window.specs.View.{surveyed, seen, one}
 use Rattle.window.proofs.Sides.{Sides}
 use Rattle.window.proofs.Views.{seen_most, seen_shift}
-use Rattle.refusals.specs.Judge.{range_of, frame_verdict}
+use Rattle.refusals.specs.Judge.{range_of, frame_verdict_by}
 use Rattle.refusals.proofs.Ranges.{none, more, clear_samples}
 use Rattle.plane.specs.Plane.{site_at}
 use Rattle.plane.proofs.Planes.{site_in, box_shifted}
@@ -54,7 +54,7 @@ module _ (w h full black order d : ℕ) (mask frame brighter : List ℕ) (long :
     ratios plane = same-ratio black d _ _ _ _ refl (totals plane) refl (totals (mosaic_of order).gr)
 
   same_lent : lent_verdict w h full (black + d) order mask brighter ≡ lent_verdict w h full black order mask frame
-  unfolding lent_verdict frame_verdict
+  unfolding lent_verdict frame_verdict_by
   same_lent = rw (le-ltb full (black + d) dark, le-ltb full black (omega arith), long, range)
 
   same_verdict : colour_verdict w h full (black + d) order mask brighter ≡ colour_verdict w h full black order mask frame

@@ -17,7 +17,7 @@ use Rattle.verdict.proofs.Answers.{counted_is_told}
 use Rattle.window.specs.Shape.{sites_of}
 use Rattle.window.specs.View.{seen, one, above}
 use Rattle.window.proofs.Views.{Agree, same_view}
-use Rattle.refusals.specs.Judge.{frame_verdict}
+use Rattle.refusals.specs.Judge.{frame_verdict_by}
 use Rattle.refusals.proofs.Ranges.{one_counting}
 use Rattle.dark.specs.Dark.{above_black, dark_verdict, figures, no_figures, dark_figures, dark_answer, paper_of, dark_paper}
 use Rattle.dark.proofs.Levels.{tests, table, accepted, answer_is}
@@ -45,7 +45,7 @@ module _ (w h full black : ℕ) (mask frame : List ℕ) where
 
   -- blind: what another frame holds at unsurveyed sites changes nothing, no count either
   pub blind : (other : List ℕ) → Agree mask frame other → dark_answer w h full black mask frame ≡ dark_answer w h full black mask other
-  unfolding dark_answer dark_verdict frame_verdict
+  unfolding dark_answer dark_verdict frame_verdict_by
   blind other a = rw (a.long, same_view a)
 
   -- of an accepted call with the level a / n

@@ -10,7 +10,7 @@ use Rattle.exact.specs.Root.{root, root_to}
 use Rattle.verdict.specs.Verdict.{◌⨟◌, refuse_if, refuse_first}
 use Rattle.window.specs.Shape.{bad_count, bad_side, bad_sides, bad_scale, sites_of}
 use Rattle.window.specs.View.{seen_at, seen, one}
-use Rattle.refusals.specs.Judge.{shape_of, samples_in, over_in, mask_verdict, frame_verdict, frames_verdict}
+use Rattle.refusals.specs.Judge.{shape_by, samples_in_by, over_in, mask_verdict_by, frame_verdict_by, frames_verdict}
 use Rattle.plane.specs.Plane.{box_sum}
 use Rattle.raw.specs.Packed.{joined, sample_at}
 use Rattle.raw.specs.Unpack.{unpack_verdict, unpack_answer, unpack_buffer}
@@ -41,7 +41,7 @@ use Rattle.shading.specs.Judge.{bad_limit, impossible, impossible_in, lent_verdi
 use Rattle.edges.specs.Table.{Edges, Beside, Transfers, Shadings, Stacks}
 
 pub edges : Edges
-unfolding round of_bits first_to greatest_to greatest_in ◌⊖◌ sum_toℤ sum_to sum_in sum_box tabulate shape_of mask_verdict frame_verdict box_sum bad_side bad_sides bad_scale sites_of samples_in over_in seen_at seen one root root_to joined sample_at unpack_verdict unpack_answer unpack_buffer numerator spread_of frames_verdict pair_verdict pair_answer above_black dark_verdict dark_answer near_sum used_threshold far found_at marked_at found_count find_verdict find_answer find_mask line_total step_of ten_around stands_out deviation figures_of bad_count pattern_verdict pattern_answer before after pooled defective mark_of mark_at lines_verdict lines_answer lines_buffer
+unfolding round of_bits first_to greatest_to greatest_in ◌⊖◌ sum_toℤ sum_to sum_in sum_box tabulate shape_by mask_verdict_by frame_verdict_by box_sum bad_side bad_sides bad_scale sites_of samples_in_by over_in seen_at seen one root root_to joined sample_at unpack_verdict unpack_answer unpack_buffer numerator spread_of frames_verdict pair_verdict pair_answer above_black dark_verdict dark_answer near_sum used_threshold far found_at marked_at found_count find_verdict find_answer find_mask line_total step_of ten_around stands_out deviation figures_of bad_count pattern_verdict pattern_answer before after pooled defective mark_of mark_at lines_verdict lines_answer lines_buffer
 edges = record {
   K1 = refl;
   K2 = refl;
@@ -56,7 +56,7 @@ edges = record {
 }
 
 pub beside : Beside
-unfolding round first_to greatest_to greatest_in ◌⊖◌ sum_toℤ sum_to sum_in sum_box tabulate shape_of mask_verdict frame_verdict box_sum bad_side bad_sides bad_scale sites_of samples_in over_in seen_at seen one root root_to numerator spread_of frames_verdict pair_verdict pair_answer above_black dark_verdict dark_answer near_sum used_threshold far found_at marked_at found_count find_verdict find_answer find_mask line_total step_of ten_around stands_out deviation figures_of bad_count pattern_verdict pattern_answer before after pooled defective mark_of mark_at lines_verdict lines_buffer
+unfolding round first_to greatest_to greatest_in ◌⊖◌ sum_toℤ sum_to sum_in sum_box tabulate shape_by mask_verdict_by frame_verdict_by box_sum bad_side bad_sides bad_scale sites_of samples_in_by over_in seen_at seen one root root_to numerator spread_of frames_verdict pair_verdict pair_answer above_black dark_verdict dark_answer near_sum used_threshold far found_at marked_at found_count find_verdict find_answer find_mask line_total step_of ten_around stands_out deviation figures_of bad_count pattern_verdict pattern_answer before after pooled defective mark_of mark_at lines_verdict lines_buffer
 beside = record {
   dark_column = refl;
   dark_row = refl;
@@ -94,7 +94,7 @@ transfers = record {
 }
 
 pub shadings : Shadings
-unfolding first_to ◌⊖◌ tabulate bad_side bad_sides bad_scale shape_of mosaic_of too_small colour.above_black not_above ratio_of blocks_of area_of area_sites unseen too_dark fails judged_shade shade_of bad_limit impossible impossible_in lent_verdict judge_verdict planes_of tint_of shade_in judge_answer judge_buffer
+unfolding first_to ◌⊖◌ tabulate bad_side bad_sides bad_scale shape_by mosaic_of too_small colour.above_black not_above ratio_of blocks_of area_of area_sites unseen too_dark fails judged_shade shade_of bad_limit impossible impossible_in lent_verdict judge_verdict planes_of tint_of shade_in judge_answer judge_buffer
 shadings = record {
   even = (refl, refl, refl, refl, refl);
   brighter_at_2 = (refl, refl, refl, refl, refl);
@@ -118,7 +118,7 @@ shadings = record {
 }
 
 pub stacks : Stacks
-unfolding round first_to sum_to tabulate bad_count bad_side bad_sides bad_scale sites_of seen one shape_of samples_in mask_verdict frame_verdict stack.sums_impossible stack.extremes_impossible stack.empty_extremes stack.impossible stack.impossible_in renewed extreme extreme_at add_verdict add_answer add_stack too_few variance_verdict scatter variance_answer bad_spread blinks_at blinking_verdict blinking_answer
+unfolding round first_to sum_to tabulate bad_count bad_side bad_sides bad_scale sites_of seen one shape_by samples_in_by mask_verdict_by frame_verdict_by stack.sums_impossible stack.extremes_impossible stack.empty_extremes stack.impossible stack.impossible_in renewed extreme extreme_at add_verdict add_answer add_stack too_few variance_verdict scatter variance_answer bad_spread blinks_at blinking_verdict blinking_answer
 stacks = record {
   first_frame = (refl, refl);
   second_frame = (refl, refl);

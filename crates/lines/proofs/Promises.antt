@@ -21,7 +21,7 @@ use Rattle.verdict.specs.Verdict.{clear}
 use Rattle.window.specs.Shape.{sites_of}
 use Rattle.window.specs.View.{surveyed, seen, one, above}
 use Rattle.window.proofs.Views.{Agree, same_view, Offset, seen_shift}
-use Rattle.refusals.specs.Judge.{frame_verdict}
+use Rattle.refusals.specs.Judge.{frame_verdict_by}
 use Rattle.refusals.proofs.Ranges.{one_counting}
 use Rattle.plane.specs.Plane.{site_at}
 use Rattle.plane.proofs.Planes.{site_in, box_shifted}
@@ -57,7 +57,7 @@ module _ (lines : ℕ → ℕ → Lines) (w h full : ℕ) (mask frame marks : Li
   pub blind : (other : List ℕ) → Agree mask frame other
       → (lines_answer lines w h full mask frame (length marks) ≡ lines_answer lines w h full mask other (length marks))
       × (lines_buffer lines w h full mask frame marks ≡ lines_buffer lines w h full mask other marks)
-  unfolding lines_answer lines_buffer lines_verdict frame_verdict
+  unfolding lines_answer lines_buffer lines_verdict frame_verdict_by
   blind other a = (rw (a.long, same_view a), rw (a.long, same_view a))
 
   -- of an accepted call

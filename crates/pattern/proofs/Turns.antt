@@ -22,7 +22,7 @@ use Rattle.window.specs.Shape.{bad_sides, sites_of}
 use Rattle.window.specs.View.{bad_code, surveyed, seen_at, seen, above}
 use Rattle.window.proofs.Sides.{sides, no_sites, turned_sides, turned_sites}
 use Rattle.window.proofs.Views.{seen_is}
-use Rattle.refusals.specs.Judge.{shape_of, length_of, codes_of, mask_verdict}
+use Rattle.refusals.specs.Judge.{shape_by, shape_of, length_of, codes_of, mask_verdict_by, mask_verdict}
 use Rattle.pattern.specs.Lines.{columns, rows, line_total}
 use Rattle.pattern.specs.Pattern.{unsurveyed, pattern_verdict, pattern_figures}
 use Rattle.pattern.proofs.Figuring.{figures_ext}
@@ -98,7 +98,7 @@ module _ (w h : ℕ) {mask mask' : List ℕ} (m : Turned w h mask mask') where
 
   mask_turned : (full : ℕ) (parameters lengths : Verdict)
       → Twin (mask_verdict w h full parameters mask lengths) (mask_verdict h w full parameters mask' lengths)
-  unfolding mask_verdict shape_of
+  unfolding mask_verdict_by shape_by
   mask_turned full parameters lengths =
       rw (turned_sides w h, turned_sites w h, m.long)
       (twin_after (shape_of w h full) (twin_after parameters (twin_after (length_of w h (length mask)) (twin_after lengths codes_turned))))

@@ -15,22 +15,22 @@ use Rattle.window.specs.Shape.{bad_sides, bad_scale, sites_of}
 use Rattle.window.specs.Walk.{walked}
 use Rattle.window.proofs.Walks.{walked_whole}
 use Rattle.window.specs.View.{bad_code}
-use Rattle.refusals.specs.Judge.{shape_of, other_than, codes_of}
+use Rattle.refusals.specs.Judge.{shape_by, shape_of, other_than, codes_of}
 
 -- 1 and 2
 module _ (w h full : ℕ) where
   pub shape_clear : shape_of w h full ≡ clear → (bad_sides w h ≡ false) × (bad_scale full ≡ false)
-  unfolding shape_of
+  unfolding shape_by
   shape_clear e =
       let both = then_clear (refuse_if Sides (bad_sides w h)) (refuse_if FullScale (bad_scale full)) e in
       (unless _ (bad_sides w h) both.0, unless _ (bad_scale full) both.1)
 
   pub clear_shape : bad_sides w h ≡ false → bad_scale full ≡ false → shape_of w h full ≡ clear
-  unfolding shape_of
+  unfolding shape_by
   clear_shape legal scaled = clear_then (clear_unless _ legal) (clear_unless _ scaled)
 
   pub shape_tabled : Tabled (shape_of w h full) (test Sides (bad_sides w h) ∷ test FullScale (bad_scale full) ∷ [])
-  unfolding shape_of
+  unfolding shape_by
   shape_tabled = tabled _ _
 
 -- 4 does not apply: the length is the one needed

@@ -13,7 +13,7 @@ use Rattle.window.specs.Shape.{bad_sides, bad_scale, sites_of}
 use Rattle.window.proofs.Sides.{sides, scale}
 use Rattle.window.specs.Walk.{walked}
 use Rattle.window.specs.View.{bad_code, above, seen}
-use Rattle.refusals.specs.Judge.{shape_of, other_than, length_of, codes_of, over_in, samples_of, range_of, mask_verdict, frame_verdict}
+use Rattle.refusals.specs.Judge.{shape_of, other_than, length_of, codes_of, over_in, samples_of, range_of, mask_verdict_by, frame_verdict_by, mask_verdict, frame_verdict}
 use Rattle.refusals.specs.Walk.{ranged}
 use Rattle.refusals.proofs.Chains.{shape_clear, clear_shape, shape_tabled, length_clear, clear_length, codes_clear, clear_codes, measured, codes_whole}
 use Rattle.refusals.proofs.Ranges.{none, more, range_head, samples_clear, clear_samples, range_tests, samples_tabled, range_one, ranged-whole}
@@ -39,7 +39,7 @@ module _ (w h full : ℕ) (mask : List ℕ) where
   module _ {parameters lengths : Verdict} where
     -- what 1 to 5 let pass, with the call's own tests among them
     pub mask_clear : mask_verdict w h full parameters mask lengths ≡ clear → (parameters ≡ clear) × (lengths ≡ clear) × Masked w h full mask
-    unfolding mask_verdict
+    unfolding mask_verdict_by
     mask_clear e =
         let shape = then_clear _ _ e in
         let handed = then_clear _ _ shape.1 in
@@ -50,7 +50,7 @@ module _ (w h full : ℕ) (mask : List ℕ) where
 
     -- behind a good mask, with buffers of the right length, a call's own 3 is all that 1 to 5 can be
     pub parameters_left : Masked w h full mask → lengths ≡ clear → mask_verdict w h full parameters mask lengths ≡ parameters
-    unfolding mask_verdict
+    unfolding mask_verdict_by
     parameters_left m l =
         rw (
           clear_shape w h full m.legal m.scaled,
@@ -67,7 +67,7 @@ module _ (w h full : ℕ) (mask : List ℕ) where
   pub mask_judged : (parameters lengths : Verdict)
       → shape_of w h full ⨟ parameters ⨟ length_of w h (length mask) ⨟ lengths ⨟ codes_of (walked w h (length mask)) mask
       ≡ mask_verdict w h full parameters mask lengths
-  unfolding mask_verdict
+  unfolding mask_verdict_by
   mask_judged parameters lengths =
       then_same (shape_of w h full) (λ _. then_same parameters (λ _.
       measured (sites_of w h) (length mask) (λ e. then_same lengths (λ _. codes_whole w h mask e))))
@@ -85,7 +85,7 @@ module _ (w h full : ℕ) (mask : List ℕ) where
 
   -- the call's own 4 is judged only of legal sides
   pub mask_lent : (p : Verdict) {l l' : Verdict} → (bad_sides w h ≡ false → l ≡ l') → mask_verdict w h full p mask l ≡ mask_verdict w h full p mask l'
-  unfolding mask_verdict
+  unfolding mask_verdict_by
   mask_lent p f =
       then_same (shape_of w h full)
       (λ e. ap (λ (v : Verdict). p ⨟ length_of w h (length mask) ⨟ v ⨟ codes_of (sites_of w h) mask) (f (shape_clear w h full e).0))
@@ -99,14 +99,14 @@ module _ (w h full : ℕ) (mask : List ℕ) where
 
   pub mask_tabled : {parameters lengths : Verdict} {ps ls : List Test} → Tabled parameters ps → Tabled lengths ls
       → Tabled (mask_verdict w h full parameters mask lengths) (mask_tests ps ls)
-  unfolding mask_verdict
+  unfolding mask_verdict_by
   mask_tabled p l = tabled_then (shape_tabled w h full) (tabled_then p (tabled_then (tabled _ []) (tabled_then l (tabled _ []))))
 
 module _ (w h full : ℕ) (mask frame : List ℕ) where
   module _ {parameters lengths : Verdict} where
     -- and of a frame, 1 to 6
     pub frame_clear : frame_verdict w h full parameters mask frame lengths ≡ clear → (parameters ≡ clear) × (lengths ≡ clear) × Framed w h full mask frame
-    unfolding frame_verdict
+    unfolding frame_verdict_by
     frame_clear e =
         let all = then_clear _ _ e in
         let masked = mask_clear w h full mask all.0 in
@@ -115,7 +115,7 @@ module _ (w h full : ℕ) (mask frame : List ℕ) where
         (masked.0, lent.1, record { of = masked.2; framed = length_clear (sites_of w h) (length frame) lent.0; range = range_head range })
 
     pub clear_frame : Framed w h full mask frame → parameters ≡ clear → lengths ≡ clear → frame_verdict w h full parameters mask frame lengths ≡ clear
-    unfolding frame_verdict
+    unfolding frame_verdict_by
     clear_frame f p l =
         clear_then (clear_mask w h full mask f.of p (clear_then (clear_length (sites_of w h) (length frame) f.framed) l))
         (clear_samples (over_in (sites_of w h) full (seen mask frame ∷ [])) (sites_of w h) full (more f.range none))
@@ -132,7 +132,7 @@ module _ (w h full : ℕ) (mask frame : List ℕ) where
       → mask_verdict w h full parameters mask (length_of w h (length frame) ⨟ lengths)
       ⨟ samples_of (count_to n (above full (seen mask frame))) n full (seen mask frame)
       ≡ frame_verdict w h full parameters mask frame lengths
-  unfolding frame_verdict
+  unfolding frame_verdict_by
   frame_judged parameters lengths n p =
       then_same (mask_verdict w h full parameters mask (length_of w h (length frame) ⨟ lengths)) (λ e.
       let masked = mask_clear w h full mask e in
@@ -142,7 +142,7 @@ module _ (w h full : ℕ) (mask frame : List ℕ) where
   -- 6 of a mask and a frame that 1 to 5 let pass, with the count of what is over
   pub frame_asked : (parameters lengths : Verdict) → mask_verdict w h full parameters mask (length_of w h (length frame) ⨟ lengths) ≡ clear
       → samples_of (count_to (length mask) (above full (seen mask frame))) (length mask) full (seen mask frame) ≡ frame_verdict w h full parameters mask frame lengths
-  unfolding frame_verdict
+  unfolding frame_verdict_by
   frame_asked parameters lengths e =
       let masked = mask_clear w h full mask e in
       let long = length_clear (sites_of w h) (length frame) (then_clear _ _ masked.1).0 in
@@ -153,7 +153,7 @@ module _ (w h full : ℕ) (mask frame : List ℕ) where
   frame_of e f g = e ∙ ap₂ (λ (p l : Verdict). frame_verdict w h full p mask frame l) f g
 
   pub frame_lent : (p : Verdict) {l l' : Verdict} → (bad_sides w h ≡ false → l ≡ l') → frame_verdict w h full p mask frame l ≡ frame_verdict w h full p mask frame l'
-  unfolding frame_verdict
+  unfolding frame_verdict_by
   frame_lent p f =
       ap (λ (v : Verdict). v ⨟ range_of w h full (seen mask frame ∷ []))
       (mask_lent w h full mask p (λ legal. ap (λ (v : Verdict). length_of w h (length frame) ⨟ v) (f legal)))
@@ -165,5 +165,5 @@ module _ (w h full : ℕ) (mask frame : List ℕ) where
 
   pub frame_tabled : {parameters lengths : Verdict} {ps ls : List Test} → Tabled parameters ps → Tabled lengths ls
       → Tabled (frame_verdict w h full parameters mask frame lengths) (frame_tests ps ls)
-  unfolding frame_verdict
+  unfolding frame_verdict_by
   frame_tabled p l = tabled_then (mask_tabled w h full mask p (tabled_then (tabled _ []) l)) (samples_tabled _ _ _ _)

@@ -16,7 +16,7 @@ use Rattle.window.specs.Shape.{bad_scale, sites_of}
 use Rattle.window.specs.View.{above}
 use Rattle.window.proofs.Walks.{walked_whole}
 use Rattle.refusals.specs.Walk.{ranged}
-use Rattle.refusals.specs.Judge.{over_in, samples_of, samples_in, range_of}
+use Rattle.refusals.specs.Judge.{over_in, samples_in_by, samples_of, samples_in, range_of}
 
 -- 6 does not apply: nothing that is seen is above full scale, in any view
 pub in_range : (n full : ℕ) (view : ℕ → ℕ) → some_to n (above full view) ≡ false → (i : ℕ) → i < n → view i ≤ full
@@ -34,14 +34,14 @@ range_tail (more low rest) = rest
 
 module _ (over n full : ℕ) where
   pub samples_clear : (views : List (ℕ → ℕ)) → samples_in over n full views ≡ clear → InRange n full views
-  unfolding samples_in
+  unfolding samples_in_by
   samples_clear [] e = none
   samples_clear (view ∷ views) e =
       let both = then_clear (samples_of over n full view) (samples_in over n full views) e in
       more (in_range n full view (unless _ (some_to n (above full view)) both.0)) (samples_clear views both.1)
 
   pub clear_samples : {views : List (ℕ → ℕ)} → InRange n full views → samples_in over n full views ≡ clear
-  unfolding samples_in
+  unfolding samples_in_by
   clear_samples none = refl
   clear_samples (more {view} low rest) =
       clear_then (clear_unless _ (nowhere_first (above full view) n (λ i l. le-ltb full (view i) (low i l)))) (clear_samples rest)
@@ -52,7 +52,7 @@ module _ (over n full : ℕ) where
   range_tests (view ∷ views) = test_first (λ (site : ℕ). Over site over) n (above full view) ∷ range_tests views
 
   pub samples_tabled : (views : List (ℕ → ℕ)) → Tabled (samples_in over n full views) (range_tests views)
-  unfolding samples_in
+  unfolding samples_in_by
   samples_tabled [] = tabled_none
   samples_tabled (view ∷ views) = tabled_then (tabled (test_first (λ (site : ℕ). Over site over) n (above full view)) []) (samples_tabled views)
 
@@ -96,13 +96,13 @@ module _ (w h full : ℕ) where
 
   -- what `samples` asks of one frame, and of two, is the range check
   pub range_one : (view : ℕ → ℕ) → samples_of (over_full view) (sites_of w h) full view ≡ range_of w h full (view ∷ [])
-  unfolding samples_in
+  unfolding samples_in_by
   range_one view = rw (over_of_one view) (sym (then_end _))
 
   pub range_two : (first second : ℕ → ℕ)
       → samples_of (over_full first + over_full second) (sites_of w h) full first ⨟ samples_of (over_full first + over_full second) (sites_of w h) full second
       ≡ range_of w h full (first ∷ second ∷ [])
-  unfolding samples_in
+  unfolding samples_in_by
   range_two first second = rw (over_of_two first second, then_end)
 
 -- of a legal full scale, and of buffers of the window's length, the whole window is walked for 6

@@ -4,13 +4,13 @@
 ghost use Rattle.std.specs.Prelude.{◌≡◌, ◌*◌, ◌≤◌, length};
 ghost use Rattle.laws.specs.First.{first_to, some_to, count_to};
 ghost use Rattle.window.specs.View.{bad_code, seen, above};
-ghost use Rattle.refusals.specs.Judge.{shape_of, length_of, codes_of, samples_of, mask_verdict, frame_verdict, frames_verdict};
+ghost use Rattle.refusals.specs.Judge.{shape_of, length_of, codes_of, samples_of, told_by, mask_verdict_by, frame_verdict_by, frames_verdict};
 
-use verdict::Refusal;
+use verdict::{Refusal, Refusing};
 use window::View;
 
 // Refusals 1 and 2.
-#[tactic(auto, unfolding(crate::specs::Judge::shape_of))]
+#[tactic(auto, unfolding(crate::specs::Judge::shape_by))]
 pub fn shape(width: usize, height: usize, full_scale: u64) -> Result<(), Refusal>
     ensures { result ≡ shape_of width height full_scale }
 {
@@ -118,39 +118,49 @@ fn samples(view: &View, full_scale: u64, own: u64, over: u64) -> Result<(), Refu
     Err(Refusal::Over(place, over))
 }
 
-// Refusals 1 to 5 of a call with a mask, the call's own 3, `parameters`, and 4, `lengths`, in their places.
-#[tactic(auto, unfolding(crate::specs::Judge::mask_verdict))]
-pub fn judge_mask(
+// A verdict of the table's refusals, in a caller's own.
+fn told<R: Refusing>(verdict: Result<(), Refusal>) -> Result<(), R>
+    ensures { result ≡ told_by R.told verdict }
+{
+    match verdict {
+        Ok(()) => Ok(()),
+        Err(refusal) => Err(R::of(refusal)),
+    }
+}
+
+// Refusals 1 to 5 of a call with a mask, the call's own 3, `parameters`, and 4, `lengths`, in their places: what it hands in is given back in its turn, whatever its type.
+#[tactic(auto, unfolding(crate::specs::Judge::mask_verdict_by), using(crate::proofs::OwnRefusals::shape_told, crate::proofs::OwnRefusals::length_told, crate::proofs::OwnRefusals::codes_told))]
+pub fn judge_mask<R: Refusing>(
     width: usize,
     height: usize,
     full_scale: u64,
-    parameters: Result<(), Refusal>,
+    parameters: Result<(), R>,
     mask: &[u8],
-    lengths: Result<(), Refusal>,
-) -> Result<(), Refusal>
-    ensures { result ≡ mask_verdict width height full_scale parameters mask.now lengths }
+    lengths: Result<(), R>,
+) -> Result<(), R>
+    ensures { result ≡ mask_verdict_by R.told width height full_scale parameters mask.now lengths }
 {
-    shape(width, height, full_scale)?;
+    told::<R>(shape(width, height, full_scale))?;
     parameters?;
-    length(width, height, mask.len())?;
+    told::<R>(length(width, height, mask.len()))?;
     lengths?;
-    codes(width, height, mask)
+    told(codes(width, height, mask))
 }
 
 // Refusals 1 to 6 of a call with a mask and a frame, likewise.
-#[tactic(auto, unfolding(crate::specs::Judge::frame_verdict))]
-pub fn judge_frame(
+#[tactic(auto, unfolding(crate::specs::Judge::frame_verdict_by), using(crate::proofs::OwnRefusals::length_told))]
+pub fn judge_frame<R: Refusing>(
     width: usize,
     height: usize,
     full_scale: u64,
-    parameters: Result<(), Refusal>,
+    parameters: Result<(), R>,
     mask: &[u8],
     frame: &[u16],
-    lengths: Result<(), Refusal>,
-) -> Result<(), Refusal>
-    ensures { result ≡ frame_verdict width height full_scale parameters mask.now frame.now lengths }
+    lengths: Result<(), R>,
+) -> Result<(), R>
+    ensures { result ≡ frame_verdict_by R.told width height full_scale parameters mask.now frame.now lengths }
 {
-    let framed = length(width, height, frame.len()).and(lengths);
+    let framed = told::<R>(length(width, height, frame.len())).and(lengths);
     judge_mask(width, height, full_scale, parameters, mask, framed)?;
     let view = View {
         width,
@@ -159,7 +169,7 @@ pub fn judge_frame(
         frame,
     };
     let count = over(&view, full_scale);
-    samples(&view, full_scale, count, count)
+    told(samples(&view, full_scale, count, count))
 }
 
 // Refusals 1 to 6 of a call with a mask and two frames.

@@ -21,7 +21,7 @@ use Rattle.window.specs.Shape.{sites_of}
 use Rattle.window.specs.View.{seen_at, seen, one, above}
 use Rattle.window.proofs.Sides.{sides}
 use Rattle.window.proofs.Views.{Agree, same_view, seen_is, one_is}
-use Rattle.refusals.specs.Judge.{frame_verdict}
+use Rattle.refusals.specs.Judge.{frame_verdict_by}
 use Rattle.refusals.proofs.Ranges.{one_counting}
 use Rattle.refusals.proofs.Judges.{Framed}
 use Rattle.near.specs.Near.{near_sum}
@@ -43,7 +43,7 @@ module _ (w h full : ℕ) (mask frame out_frame out_mask : List ℕ) where
   pub blind : (other : List ℕ) → Agree mask frame other
       → (repair_answer w h full mask frame (length out_frame) (length out_mask) ≡ repair_answer w h full mask other (length out_frame) (length out_mask))
       × (repair_mask w h full mask frame (length out_frame) out_mask ≡ repair_mask w h full mask other (length out_frame) out_mask)
-  unfolding repair_answer repair_mask repair_verdict frame_verdict
+  unfolding repair_answer repair_mask repair_verdict frame_verdict_by
   blind other a = rw (a.long, same_view a) (refl, refl)
 
   -- the paper's numbers are those of the answer
@@ -232,7 +232,7 @@ module _ (w h full : ℕ) (mask frame out_frame out_mask : List ℕ) (accepted :
 -- what the frame holds at sites that are not surveyed does not change the verdict
 same_verdict : (w h full : ℕ) (mask frame other : List ℕ) (out_frame out_mask : ℕ) → Agree mask frame other
     → repair_verdict w h full mask frame out_frame out_mask ≡ repair_verdict w h full mask other out_frame out_mask
-unfolding repair_verdict frame_verdict
+unfolding repair_verdict frame_verdict_by
 same_verdict w h full mask frame other out_frame out_mask a = rw (a.long, same_view a)
 
 -- blind: nor does it change the sample of any site that is surveyed or filled

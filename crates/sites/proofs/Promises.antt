@@ -21,7 +21,7 @@ use Rattle.window.specs.Shape.{sites_of}
 use Rattle.window.specs.View.{seen_at, seen, above}
 use Rattle.window.proofs.Sides.{sides}
 use Rattle.window.proofs.Views.{Agree, same_view, seen_out}
-use Rattle.refusals.specs.Judge.{frame_verdict}
+use Rattle.refusals.specs.Judge.{frame_verdict_by}
 use Rattle.refusals.proofs.Ranges.{one_counting}
 use Rattle.sites.specs.Find.{used_threshold, found_at, marked_at, found_count, find_verdict, find_answer, find_paper_of, find_paper, find_mask}
 use Rattle.sites.proofs.Finds.{far_at, same-found, same-marked}
@@ -38,7 +38,7 @@ module _ (w h full t : ℕ) (mask frame out : List ℕ) where
   pub blind : (other : List ℕ) → Agree mask frame other
       → (find_answer w h full t mask frame (length out) ≡ find_answer w h full t mask other (length out))
       × (find_mask w h full t mask frame out ≡ find_mask w h full t mask other out)
-  unfolding find_answer find_mask find_verdict frame_verdict
+  unfolding find_answer find_mask find_verdict frame_verdict_by
   blind other a = rw (a.long, same_view a) (refl, refl)
 
   -- the paper's numbers are those of the answer

@@ -13,7 +13,7 @@ use Rattle.verdict.proofs.Verdicts.{Test, Tabled, test, in_turn, tabled, tabled_
 use Rattle.verdict.specs.declared.Refusal.TheVariants.{Sides, FullScale, Parameter, Length, TooFew, Cut, OtherTag, OtherLength, Extra, TooWide}
 use Rattle.window.specs.Shape.{bad_sides, bad_scale, sites_of}
 use Rattle.window.specs.View.{seen, one}
-use Rattle.refusals.specs.Judge.{shape_of, other_than, codes_of, samples_in, range_of, mask_verdict, frame_verdict, frames_verdict}
+use Rattle.refusals.specs.Judge.{shape_by, other_than, codes_of, samples_in_by, range_of, mask_verdict_by, frame_verdict_by, frame_verdict, frames_verdict}
 use Rattle.refusals.proofs.Chains.{clear_shape, right-length, clear_length, clear_codes}
 use Rattle.refusals.proofs.Ranges.{none, more, clear_samples, samples_test}
 use Rattle.refusals.proofs.Judges.{codes_test, Framed}
@@ -93,12 +93,12 @@ module _ (w h full black : ℕ) (mask first second : List ℕ) where
         ⨟ codes_of (sites_of w h) mask
         ⨟ range_of w h full (seen mask first ∷ seen mask second ∷ [])
         ⨟ refuse_if TooFew (ltb (pair_spread w h mask first second).n 2)
-    unfolding pair_verdict frames_verdict mask_verdict shape_of
+    unfolding pair_verdict frames_verdict mask_verdict_by shape_by
     pair_left = simp (then_assoc, legal, long (length mask) m, long (length first) f, long (length second) g)
 
     -- a frame that the pair accepts leaves the dark level its own 3
     own : {parameters : Verdict} → Framed w h full mask first → frame_verdict w h full parameters mask first clear ≡ parameters
-    unfolding frame_verdict mask_verdict
+    unfolding frame_verdict_by mask_verdict_by
     own {parameters} of =
         let range : range_of w h full (seen mask first ∷ []) ≡ clear = clear_samples _ _ _ (more of.range none) in
         simp (
@@ -121,5 +121,5 @@ module _ (w h full black : ℕ) (mask first second : List ℕ) where
         ap₂ (λ (a b : Verdict). a ⨟ b) (own (frames_clear w h full mask first second frames.0).of_first) some ∙ then_end _
 
     pub left_is : pair_verdict w h full mask first second ⨟ dark_verdict w h full black mask first ≡ in_turn (scale_test full) left_tests
-    unfolding samples_in
+    unfolding samples_in_by
     left_is = rw (then_same (pair_verdict w h full mask first second) dark_left, pair_left) (simp (then_assoc, clear_first))

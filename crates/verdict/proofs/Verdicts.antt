@@ -16,7 +16,7 @@ use Rattle.verdict.specs.Answer.{CountedPaper}
 use Rattle.verdict.specs.declared.Refusal.{Refusal}
 
 -- a verdict is clear or refuses, and never both
-pub not_clear : {r : Refusal} {A : Type 0} → Err r ≡ clear → A
+pub not_clear : {A R : Type 0} {r : R} → ◌≡◌ {A = Result (Unit {0}) R} (Err r) (Ok tt) → A
 not_clear e = let z : ◌≡◌ {A = ℕ} 0 1 = cc in absurd (omega arith)
 
 -- what follows is judged only where nothing was refused
@@ -29,18 +29,18 @@ pub then_of : {A : Type 0} {a a' : Verdict} {r b b' : Result A Refusal} → r �
 then_of {A} e p q = e ∙ ap₂ (λ (x : Verdict) (y : Result A Refusal). x ⨟ y) p q
 
 -- the first of two that refuses stops the second, and one that is clear leaves it to the second: what `?` does
-pub stopped : {A : Type 0} {a : Verdict} {r : Refusal} (b : Result A Refusal) → Err r ≡ a → Err r ≡ a ⨟ b
+pub stopped : {A R : Type 0} {a : Result (Unit {0}) R} {r : R} (b : Result A R) → Err r ≡ a → Err r ≡ a ⨟ b
 stopped b e = rw (sym e) refl
 
-pub moved_on : {A : Type 0} {a : Verdict} (b : Result A Refusal) → clear ≡ a → b ≡ a ⨟ b
+pub moved_on : {A R : Type 0} {a : Result (Unit {0}) R} (b : Result A R) → Ok tt ≡ a → b ≡ a ⨟ b
 moved_on b e = rw (sym e) refl
 
 -- std's `and` of two verdicts is one after the other
-pub and_is : {A : Type 0} (a : Verdict) (b : Result A Refusal) → result_and a b ≡ a ⨟ b
+pub and_is : {A R : Type 0} (a : Result (Unit {0}) R) (b : Result A R) → result_and a b ≡ a ⨟ b
 and_is (Ok _) b = refl
 and_is (Err r) b = refl
 
-pub then_clear : (a b : Verdict) → a ⨟ b ≡ clear → (a ≡ clear) × (b ≡ clear)
+pub then_clear : {R : Type 0} (a b : Result (Unit {0}) R) → a ⨟ b ≡ Ok tt → (a ≡ Ok tt) × (b ≡ Ok tt)
 then_clear (Ok u) b e = (refl, e)
 then_clear (Err r) b e = not_clear e
 

@@ -13,16 +13,16 @@ clear = Ok tt
 
 -- one after the other: the first that refuses, else the last, be it a verdict or an answer
 infixr 5 ◌⨟◌
-abbrev pub ◌⨟◌ : {A : Type 0} → Verdict → Result A Refusal → Result A Refusal
+abbrev pub ◌⨟◌ : {A R : Type 0} → Result (Unit {0}) R → Result A R → Result A R
 Ok u ⨟ b = b
 Err r ⨟ b = Err r
 
 -- refused where the test applies
-abbrev pub refuse_if : Refusal → Bool → Verdict
-refuse_if r applies = cond applies (Err r) clear
+abbrev pub refuse_if : {R : Type 0} → R → Bool → Result (Unit {0}) R
+refuse_if r applies = cond applies (Err r) (Ok tt)
 
 -- refused at the first of n sites at which the test applies
-abbrev pub refuse_first : (ℕ → Refusal) → ℕ → (ℕ → Bool) → Verdict
+abbrev pub refuse_first : {R : Type 0} → (ℕ → R) → ℕ → (ℕ → Bool) → Result (Unit {0}) R
 refuse_first at n test = refuse_if (at (first_to n test)) (some_to n test)
 
 -- the paper's number, place and count of a verdict, or of an answer

@@ -2,6 +2,7 @@
 #![tactic(auto)]
 
 ghost use Rattle.std.specs.Prelude.{◌≡◌, Some};
+ghost use Rattle.verdict.specs.declared.Refusal.{Refusal};
 ghost use Rattle.verdict.specs.Verdict.{refuse_if};
 ghost use Rattle.verdict.specs.Numbers.{refusal_number, refusal_place, refusal_count, refusal_text};
 
@@ -98,8 +99,25 @@ impl fmt::Display for Refusal {
     }
 }
 
-// Refused where the test applies.
-pub fn refuse_if(refusal: Refusal, applies: bool) -> Result<(), Refusal>
+// What a call may be refused with: one that hands in verdicts of its own may have refusals that the table has no name for, and says what it has for each of the table's.
+pub trait Refusing: Copy {
+    ghost told: { Refusal → Self };
+
+    fn of(refusal: Refusal) -> Self
+        ensures { result ≡ told refusal };
+}
+
+// The table's refusals themselves.
+impl Refusing for Refusal {
+    ghost told = { λ r. r };
+
+    fn of(refusal: Refusal) -> Refusal {
+        refusal
+    }
+}
+
+// Refused where the test applies, with a refusal of any type.
+pub fn refuse_if<R: Copy>(refusal: R, applies: bool) -> Result<(), R>
     ensures { result ≡ refuse_if refusal applies }
 {
     if applies { Err(refusal) } else { Ok(()) }
