@@ -3,6 +3,7 @@ use Prim.Native.Nat.{ℕ, ◌+◌}
 use mathlib.Core.List.{List}
 use mathlib.Core.Path.{◌≡◌, refl, sym, ap, ap₂, ◌∙◌}
 use lib.ListN.{length}
+use borrow.Author.Rules.{rules}
 use Rattle.std.proofs.lemmas.Result.{err_from_is_err_and}
 use Rattle.verdict.specs.Verdict.{Verdict, clear, ◌⨟◌}
 use Rattle.verdict.proofs.Verdicts.{and_is, stopped, moved_on}
@@ -45,10 +46,10 @@ pub over-over_second-requires : goal.over-over_second-requires
 over-over_second-requires c = (both_passed _ _ _ _ _ _ (passed (goal.at.over-over_second-requires c).In_ok-judge_mask)).0
 
 pub samples-requires : goal.samples-requires
-samples-requires c = ((both_passed _ _ _ _ _ _ (passed (goal.at.samples-requires c).In_ok-judge_mask)).0, c.over-over_first.ensures.0)
+samples-requires c = ((both_passed _ _ _ _ _ _ (passed (goal.at.samples-requires c).In_ok-judge_mask)).0, search rules)
 
 pub samples-requires-2 : goal.samples-requires-2
-samples-requires-2 c = ((both_passed _ _ _ _ _ _ (passed (goal.at.samples-requires-2 c).In_ok-judge_mask)).0, c.over-over_second.ensures.0)
+samples-requires-2 c = ((both_passed _ _ _ _ _ _ (passed (goal.at.samples-requires-2 c).In_ok-judge_mask)).0, search rules)
 
 pub returns-in_err-samples : goal.returns-in_err-samples
 returns-in_err-samples c =
