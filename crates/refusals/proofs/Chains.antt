@@ -8,14 +8,16 @@ use lib.ListN.{length, get_or}
 use borrow.Author.Tests.{eq-eqb, eqb-true, le-ltb, ltb-false, not-false}
 use Rattle.laws.specs.First.{some_to}
 use Rattle.laws.proofs.Firsts.{first_nowhere, nowhere_first}
-use Rattle.verdict.specs.Verdict.{Verdict, clear, ◌⨟◌, refuse_if}
+use Rattle.verdict.specs.Verdict.{clear, ◌⨟◌, refuse_if}
 use Rattle.verdict.proofs.Verdicts.{Tabled, test, tabled, then_same, then_clear, clear_then, unless, clear_unless}
+use Rattle.std.specs.Prelude.{Result}
+use Rattle.verdict.specs.declared.Refusal.{Refusal}
 use Rattle.verdict.specs.declared.Refusal.TheVariants.{Sides, FullScale, Length}
 use Rattle.window.specs.Shape.{bad_sides, bad_scale, sites_of}
 use Rattle.window.specs.Walk.{walked}
 use Rattle.window.proofs.Walks.{walked_whole}
 use Rattle.window.specs.View.{bad_code}
-use Rattle.refusals.specs.Judge.{shape_by, shape_of, other_than, codes_of}
+use Rattle.refusals.specs.Judge.{shape_by, shape_of, other_than, codes_by, codes_of}
 
 -- 1 and 2
 module _ (w h full : ℕ) where
@@ -55,11 +57,11 @@ pub clear_codes : (n : ℕ) (mask : List ℕ) → ((i : ℕ) → i < n → get_o
 clear_codes n mask low = clear_unless _ (nowhere_first (bad_code mask) n (λ i l. le-ltb 3 (get_or mask i 0) (low i l)))
 
 -- what follows 4 is judged only of a buffer of the length needed
-pub measured : (needed long : ℕ) {b d : Verdict} → (long ≡ needed → b ≡ d)
-    → refuse_if Length (other_than needed long) ⨟ b ≡ refuse_if Length (other_than needed long) ⨟ d
-measured needed long f = then_same (refuse_if Length (other_than needed long)) (λ e. f (length_clear needed long e))
+pub measured : {R : Type 0} (r : R) (needed long : ℕ) {b d : Result (Unit {0}) R} → (long ≡ needed → b ≡ d)
+    → refuse_if r (other_than needed long) ⨟ b ≡ refuse_if r (other_than needed long) ⨟ d
+measured r needed long f = then_same (refuse_if r (other_than needed long)) (λ e. f (same_length needed long (unless r (other_than needed long) e)))
 
 -- so 5 of what a buffer of that length lets be walked is of the whole window
-pub codes_whole : (w h : ℕ) (mask : List ℕ) → length mask ≡ sites_of w h
-    → codes_of (walked w h (length mask)) mask ≡ codes_of (sites_of w h) mask
-codes_whole w h mask e = rw (walked_whole w h (length mask) e)
+pub codes_whole : {R : Type 0} (told : Refusal → R) (w h : ℕ) (mask : List ℕ) → length mask ≡ sites_of w h
+    → codes_by told (walked w h (length mask)) mask ≡ codes_by told (sites_of w h) mask
+codes_whole told w h mask e = rw (walked_whole w h (length mask) e)

@@ -8,12 +8,14 @@ use lib.ListN.{length, get_or}
 use Rattle.laws.specs.First.{count_to}
 use Rattle.verdict.specs.Verdict.{Verdict, clear, ◌⨟◌}
 use Rattle.verdict.proofs.Verdicts.{Test, Tabled, test, test_first, tabled, tabled_then, then_same, then_clear, then_end, clear_then, moved_on}
+use Rattle.std.specs.Prelude.{Result}
+use Rattle.verdict.specs.declared.Refusal.{Refusal}
 use Rattle.verdict.specs.declared.Refusal.TheVariants.{Sides, FullScale, Length, Code}
 use Rattle.window.specs.Shape.{bad_sides, bad_scale, sites_of}
 use Rattle.window.proofs.Sides.{sides, scale}
 use Rattle.window.specs.Walk.{walked}
 use Rattle.window.specs.View.{bad_code, above, seen}
-use Rattle.refusals.specs.Judge.{shape_of, other_than, length_of, codes_of, over_in, samples_of, range_of, mask_verdict_by, frame_verdict_by, mask_verdict, frame_verdict}
+use Rattle.refusals.specs.Judge.{shape_by, length_by, codes_by, shape_of, other_than, length_of, codes_of, over_in, samples_of, range_of, mask_verdict_by, frame_verdict_by, mask_verdict, frame_verdict}
 use Rattle.refusals.specs.Walk.{ranged}
 use Rattle.refusals.proofs.Chains.{shape_clear, clear_shape, shape_tabled, length_clear, clear_length, codes_clear, clear_codes, measured, codes_whole}
 use Rattle.refusals.proofs.Ranges.{none, more, range_head, samples_clear, clear_samples, range_tests, samples_tabled, range_one, ranged-whole}
@@ -64,13 +66,13 @@ module _ (w h full : ℕ) (mask : List ℕ) where
     clear_mask m p l = parameters_left m l ∙ p
 
   -- 5 is asked of the whole window: 4 comes first
-  pub mask_judged : (parameters lengths : Verdict)
-      → shape_of w h full ⨟ parameters ⨟ length_of w h (length mask) ⨟ lengths ⨟ codes_of (walked w h (length mask)) mask
-      ≡ mask_verdict w h full parameters mask lengths
+  pub mask_judged : {R : Type 0} (told : Refusal → R) (parameters lengths : Result (Unit {0}) R)
+      → shape_by told w h full ⨟ parameters ⨟ length_by told w h (length mask) ⨟ lengths ⨟ codes_by told (walked w h (length mask)) mask
+      ≡ mask_verdict_by told w h full parameters mask lengths
   unfolding mask_verdict_by
-  mask_judged parameters lengths =
-      then_same (shape_of w h full) (λ _. then_same parameters (λ _.
-      measured (sites_of w h) (length mask) (λ e. then_same lengths (λ _. codes_whole w h mask e))))
+  mask_judged told parameters lengths =
+      then_same (shape_by told w h full) (λ _. then_same parameters (λ _.
+      measured (told Length) (sites_of w h) (length mask) (λ e. then_same lengths (λ _. codes_whole told w h mask e))))
 
   -- what 5 asks of h rows of w is asked of the window
   pub codes_asked : shape_of w h full ≡ clear → codes_of (h * w) mask ≡ codes_of (sites_of w h) mask

@@ -13,7 +13,8 @@ use Rattle.verdict.proofs.Verdicts.{not_clear, then_clear, clear_then, moved_on}
 use Rattle.window.specs.Shape.{bad_sides, bad_scale, sites_of}
 use Rattle.window.specs.View.{above, seen}
 use Rattle.refusals.specs.Judge.{told_by, shape_by, length_by, codes_by, samples_in_by, mask_verdict_by, frame_verdict_by, shape_of, length_of, codes_of, samples_of, samples_in, range_of, mask_verdict}
-use Rattle.refusals.proofs.Judges.{codes_asked, mask_passed, frame_asked}
+use Rattle.refusals.proofs.Chains.{length_clear, codes_whole}
+use Rattle.refusals.proofs.Judges.{codes_asked, mask_judged, mask_passed, frame_asked}
 
 module _ {R : Type 0} (told : Refusal → R) where
   pub test_told : (r : Refusal) (applies : Bool) → told_by told (refuse_if r applies) ≡ refuse_if (told r) applies
@@ -52,14 +53,15 @@ module _ {R : Type 0} (told : Refusal → R) where
   pub mask_told : (w h full : ℕ) (mask : List ℕ) {parameters lengths : Result (Unit {0}) R}
       → shape_of w h full ≡ clear → parameters ≡ Ok tt → length_of w h (length mask) ≡ clear → lengths ≡ Ok tt
       → told_by told (codes_of (h * w) mask) ≡ mask_verdict_by told w h full parameters mask lengths
-  unfolding mask_verdict_by
-  mask_told w h full mask s p m l =
+  mask_told w h full mask {parameters} {lengths} s p m l =
       ap (told_by told) (codes_asked w h full mask s)
       ∙ codes_told (sites_of w h) mask
+      ∙ sym (codes_whole told w h mask (length_clear (sites_of w h) (length mask) m))
       ∙ moved_on _ (sym l)
       ∙ moved_on _ (ap (told_by told) (sym m) ∙ length_told w h (length mask))
       ∙ moved_on _ (sym p)
       ∙ moved_on _ (ap (told_by told) (sym s) ∙ shape_told w h full)
+      ∙ mask_judged w h full mask told parameters lengths
 
 module _ {R : Type 0} (told : Refusal → R) (w h full : ℕ) (mask frame : List ℕ) (parameters lengths : Result (Unit {0}) R)
     (passed : mask_verdict_by told w h full parameters mask (length_by told w h (length frame) ⨟ lengths) ≡ Ok tt) where

@@ -20,7 +20,7 @@ pub not_clear : {A R : Type 0} {r : R} → ◌≡◌ {A = Result (Unit {0}) R} (
 not_clear e = let z : ◌≡◌ {A = ℕ} 0 1 = cc in absurd (omega arith)
 
 -- what follows is judged only where nothing was refused
-pub then_same : {A : Type 0} (a : Verdict) {b d : Result A Refusal} → (a ≡ clear → b ≡ d) → a ⨟ b ≡ a ⨟ d
+pub then_same : {A R : Type 0} (a : Result (Unit {0}) R) {b d : Result A R} → (a ≡ Ok tt → b ≡ d) → a ⨟ b ≡ a ⨟ d
 then_same (Ok u) f = f refl
 then_same (Err r) f = refl
 
@@ -59,7 +59,7 @@ then_end (Ok u) = refl
 then_end (Err r) = refl
 
 -- a test that refuses nothing does not apply
-pub unless : (r : Refusal) (b : Bool) → refuse_if r b ≡ clear → b ≡ false
+pub unless : {R : Type 0} (r : R) (b : Bool) → refuse_if r b ≡ Ok tt → b ≡ false
 unless r false e = refl
 unless r true e = not_clear e
 
