@@ -14,5 +14,5 @@ invariant-loop-pair l =
     let all = l.self.each.now in
     let rest = windows_rest l.pair-iterator in
     let i = length all - length rest in
-    (windows_size l.pair-iterator ≡ 2) × (1 ≤ length rest) × (length rest ≤ length all) × (rest ≡ drop i all)
+    (windows_size l.pair-iterator ≡ windows_size l.initial.pair-iterator) × (1 ≤ length rest) × (length rest ≤ length all) × (rest ≡ drop i all)
     × (l.sum ≡ sum_to i (step_of (held all))) × (l.sum ≤ i * 2747437056000000)
