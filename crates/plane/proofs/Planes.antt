@@ -33,6 +33,16 @@ module _ (w h plane u : ℕ) (low : u < h / 2) where
   pub site_in : (v : ℕ) → v < w / 2 → site_at w plane u v < h * w
   site_in v in_row = omega (arith, row_in (v + 1) (omega arith))
 
+-- and so do the sites along a row of either parity, or down a column, with as many right of them as there are planes
+module _ (w h row column u v planes : ℕ) (low : u < h / 2) (in_row : v < w / 2) (odd : row ≤ 1) (both : column + planes ≤ 2) where
+  pub along_in : {n : ℕ} → n ≡ h * w → row * w + column + 2 * w * u + 2 * v + planes ≤ n
+  along_in is =
+      let below : suc (2 * u + row) ≤ h = omega arith in
+      omega (arith, is, mul-le-mul_right w below, suc-mul (2 * u + row) w, add-mul (2 * u) row w, mul_assoc 2 u w, mul_comm u w, mul_assoc 2 w u)
+
+  pub down_in : {n : ℕ} → n ≡ h * w → row * w + column + 2 * v + 2 * w * u + planes ≤ n
+  down_in is = omega (arith, along_in is)
+
 -- a plane's sites are 2 apart along a row, and two rows apart down a column
 module _ (w plane : ℕ) where
   pub stepped : (u v : ℕ) → row_parity plane * w + column_parity plane + 2 * w * u + 2 * v ≡ site_at w plane u v
