@@ -37,10 +37,11 @@ printed pair level = record {
   dark_over = level.denominator;
 }
 
--- the four lines, the last without its end
+-- two numbers as a fraction prints them
 abbrev pub fraction : List ℕ → List ℕ → List ℕ
 fraction above below = above ++ (codes "/" ++ below)
 
+-- the four lines, the last without its end
 abbrev pub figures_text : JobFigures → List ℕ
 figures_text f =
     (codes "sites " ++ decimal f.sites)
