@@ -1,5 +1,5 @@
 -- What one turn of 11's walk does, over plain values.
-use Prim.Native.Nat.{ℕ, zero, suc, ◌+◌, ◌*◌, ◌%◌, max}
+use Prim.Native.Nat.{ℕ, zero, suc, ◌+◌, ◌*◌, ◌%◌, ◌≤◌, max}
 use mathlib.Core.Bool.{Bool, true, false, cond, ◌&&◌, ◌||◌}
 use mathlib.Core.List.{List}
 use mathlib.Core.Logic.{◌⊎◌, inl, inr}
@@ -54,7 +54,7 @@ module _ (full : ℕ) (mask : List ℕ) (s : Stack) where
           ≡ impossible full s.frames (get_or s.sums i 0) (get_or s.squares i 0) (get_or s.least i 0) (get_or s.greatest i 0)
       limited = rw (o, m) (by_limits full s.frames (get_or s.sums i 0) (get_or s.squares i 0) (get_or s.least i 0) (get_or s.greatest i 0))
 
--- 11 by the rest of the count by 128
+-- 11 of a whole stack, which is walked by the rest of its count by 128
 module _ (full : ℕ) (mask : List ℕ) (s : Stack) where
   abbrev lent : ℕ → Stack
   lent frames = stack_of frames s.sums s.squares s.least s.greatest
@@ -62,15 +62,19 @@ module _ (full : ℕ) (mask : List ℕ) (s : Stack) where
   abbrev Walkable : Bool
   Walkable = readable (length mask) full (length s.sums) (length s.squares) (length s.least) (length s.greatest)
 
-  -- what the walk by the rest finds is 11, where the count is at most 100
-  pub asked-all : (found : Bool) → Walkable ≡ true → found ≡ impossible_in (length mask) full mask (lent (s.frames % 128)) → (leb s.frames 100 && found) ≡ found_impossible full mask s
+  -- what is found of a stack is heeded where its count is at most 100; of others nothing is asked
+  pub heeded : (found : Bool) → Walkable ≡ true → (s.frames ≤ 100 → found ≡ impossible_in (length mask) full mask s)
+      → (leb s.frames 100 && found) ≡ found_impossible full mask s
   unfolding found_impossible
-  asked-all found e f = rw (e, f) (by (true_or_false (leb s.frames 100)))
+  heeded found e f = rw e (by (true_or_false (leb s.frames 100)))
     where
-      by : (leb s.frames 100 ≡ true) ⊎ (leb s.frames 100 ≡ false)
-          → (leb s.frames 100 && impossible_in (length mask) full mask (lent (s.frames % 128))) ≡ (leb s.frames 100 && impossible_in (length mask) full mask s)
-      by (inl t) = let few = leb-true s.frames 100 t in let same : s.frames % 128 ≡ s.frames = omega arith in rw same
+      by : (leb s.frames 100 ≡ true) ⊎ (leb s.frames 100 ≡ false) → (leb s.frames 100 && found) ≡ (leb s.frames 100 && impossible_in (length mask) full mask s)
+      by (inl t) = rw (f (leb-true s.frames 100 t)) refl
       by (inr t) = rw t
+
+  -- what the walk by the rest finds is 11, where the count is at most 100, and so its own rest
+  pub asked-all : (found : Bool) → Walkable ≡ true → found ≡ impossible_in (length mask) full mask (lent (s.frames % 128)) → (leb s.frames 100 && found) ≡ found_impossible full mask s
+  asked-all found e f = heeded found e (λ few. let same : s.frames % 128 ≡ s.frames = omega arith in f ∙ (rw same refl))
 
   -- no other buffers are asked
   pub not_asked : Walkable ≡ false → clear ≡ refuse_if Impossible (found_impossible full mask s)
