@@ -62,7 +62,7 @@ module _ (full : ℕ) (mask : List ℕ) (s : Stack) where
   abbrev Walkable : Bool
   Walkable = readable (length mask) full (length s.sums) (length s.squares) (length s.least) (length s.greatest)
 
-  -- what is found of a stack is heeded where its count is at most 100; of others nothing is asked
+  -- what is found is heeded where the count is at most 100 alone, so it has to be right only there
   pub heeded : (found : Bool) → Walkable ≡ true → (s.frames ≤ 100 → found ≡ impossible_in (length mask) full mask s)
       → (leb s.frames 100 && found) ≡ found_impossible full mask s
   unfolding found_impossible
